@@ -1,0 +1,11 @@
+pub mod Calls
+pub mod Causes
+pub mod Files
+pub mod HostSink
+pub mod HostStore
+pub mod MemorySink
+pub mod MemoryStore
+pub mod Sink
+pub mod Store
+pub mod SureSink
+pub mod SureStore

@@ -1,0 +1,12 @@
+pub mod Complete
+pub mod Due
+pub mod LineLemmas
+pub mod Located
+pub mod Numbered
+pub mod Parts
+pub mod PathLemmas
+pub mod Places
+pub mod Sound
+pub mod TokenPaths
+pub mod Tokens
+pub mod Turns

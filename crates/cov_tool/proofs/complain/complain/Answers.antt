@@ -1,0 +1,7 @@
+-- Where the line takes too much memory, that is said instead.
+use Rattle.std.proofs.Common.{inr, refl}
+use Rattle.cov_tool.specs.Line.{OutOfMemory}
+use Rattle.cov_tool.proofs.complain.complain.Goals as goal
+
+pub returns-in_default-clause-one_line : goal.returns-in_default-clause-one_line
+returns-in_default-clause-one_line g c = (OutOfMemory, inr refl, c.say_out_of_memory.ensures)

@@ -1,0 +1,93 @@
+-- Why there is no answer, one step at a time, and what each step of the program gives.
+use Rattle.std.specs.Prelude.{◌≡◌, ℕ, ◌<◌, ◌≤◌, List, length, Option, None, Some, IfSome}
+use Rattle.std.specs.Str.{IsUtf8}
+use Rattle.std.specs.Str.Lossy.{utf8_valid_len}
+use Rattle.js_tree.specs.Plain.{File}
+use Rattle.js_text.specs.Limits.{source_limits}
+use Rattle.js_text.specs.Place.{Place}
+use Rattle.js_text.specs.Position.{position_of}
+use Rattle.cov_base.specs.Store.{Held}
+use Rattle.cov_base.specs.Sink.{after_more, TakesPrefix}
+use Rattle.cov_tool.specs.Program.{maps_text}
+use Rattle.cov_tool.specs.Line as said
+use Rattle.cov_tool.specs.Reads.{Reads, Accepted, IsTokenStart}
+use Rattle.cov_tool.specs.declared.fault.Fault.{Fault}
+use Rattle.cov_tool.specs.declared.fault.Fault.TheVariants as fault
+use Rattle.cov_tool.specs.declared.status.Status.{Status}
+use Rattle.cov_tool.specs.declared.status.Status.TheVariants as status
+
+-- where the store tells what it holds, this is what it holds at the path
+abbrev pub Holds : Option Held → List ℕ → Option (List ℕ) → Type 0
+Holds told path found = IfSome told (λ at. at path ≡ found)
+
+-- bytes that are no source
+abbrev pub IsBytesFault : Fault → List ℕ → Type 0
+IsBytesFault fault.TooLong bytes = source_limits.bytes < length bytes
+IsBytesFault (fault.NotUtf8 at) bytes = (length bytes ≤ source_limits.bytes) × (IsUtf8 bytes → ⊥) × (at ≡ utf8_valid_len bytes)
+IsBytesFault (fault.Syntax at) bytes = (length bytes ≤ source_limits.bytes) × IsUtf8 bytes × ((tree : File) → Reads bytes tree → ⊥)
+    × ((place : Place) × IsTokenStart bytes place × (at ≡ position_of place))
+IsBytesFault fault.OutOfMemory bytes = Unit {0}
+IsBytesFault other bytes = ⊥
+
+-- a file that isn't read
+abbrev pub IsReadingFault : Fault → Option Held → List ℕ → Type 0
+IsReadingFault fault.NoFile told path = Holds told path None
+IsReadingFault fault.ReadFailed told path = Unit {0}
+IsReadingFault fault.OutOfMemory told path = Unit {0}
+IsReadingFault other told path = ⊥
+
+-- why a file's maps aren't printed whole
+abbrev pub IsCause : Fault → Option Held → List ℕ → Type 0
+IsCause fault.NoFile told path = Holds told path None
+IsCause fault.ReadFailed told path = Unit {0}
+IsCause fault.WriteFailed told path = (bytes : List ℕ) × (tree : File) × Holds told path (Some bytes) × Accepted bytes tree
+IsCause fault.OutOfMemory told path = Unit {0}
+IsCause why told path = (bytes : List ℕ) × Holds told path (Some bytes) × IsBytesFault why bytes
+
+-- what is said of a fault
+abbrev pub message_at : Fault → List ℕ → said.Message
+message_at fault.NoFile path = said.NoFile path
+message_at fault.ReadFailed path = said.ReadFailed path
+message_at fault.TooLong path = said.TooLong path
+message_at (fault.NotUtf8 at) path = said.NotUtf8 path at
+message_at (fault.Syntax at) path = said.Syntax path at
+message_at fault.WriteFailed path = said.WriteFailed
+message_at fault.OutOfMemory path = said.OutOfMemory
+
+-- the status with which each message is said
+abbrev pub status_of : said.Message → Status
+status_of said.Usage = status.Usage
+status_of (said.Syntax path place) = status.Refused
+status_of (said.NotUtf8 path at) = status.Refused
+status_of (said.ReadFailed path) = status.ReadFault
+status_of said.WriteFailed = status.WriteFault
+status_of said.OutOfMemory = status.Memory
+status_of (said.TooLong path) = status.Limit
+status_of (said.NoFile path) = status.NoFile
+
+-- the text is that of the maps of these bytes
+abbrev pub IsMapsOf : List ℕ → List ℕ → List ℕ → Type 0
+IsMapsOf path bytes text = (tree : File) × Accepted bytes tree × (text ≡ maps_text path bytes tree)
+
+-- nothing was printed, or a prefix of a file's maps
+pub data PrintsAtMost (told : Option Held) (path : List ℕ) (before after : Option (List ℕ)) : Type 0 where
+  nothing : after ≡ before → PrintsAtMost told path before after
+  some : {bytes : List ℕ} {tree : File} → Holds told path (Some bytes) → Accepted bytes tree → TakesPrefix before after (maps_text path bytes tree) →
+      PrintsAtMost told path before after
+
+-- with these faults nothing was printed
+abbrev pub IsBeforePrinting : Fault → Type 0
+IsBeforePrinting fault.WriteFailed = ⊥
+IsBeforePrinting fault.OutOfMemory = ⊥
+IsBeforePrinting other = Unit {0}
+
+-- a file's maps were printed whole
+abbrev pub PrintsWhole : Option Held → List ℕ → Option (List ℕ) → Option (List ℕ) → Type 0
+PrintsWhole told path before after =
+    (bytes : List ℕ) × (tree : File) × Holds told path (Some bytes) × Accepted bytes tree × (after ≡ after_more before (maps_text path bytes tree))
+
+-- printing fails by the sink, or for want of memory
+abbrev pub IsPrintingFault : Fault → Type 0
+IsPrintingFault fault.WriteFailed = Unit {0}
+IsPrintingFault fault.OutOfMemory = Unit {0}
+IsPrintingFault other = ⊥

@@ -1,0 +1,42 @@
+-- The one line that the program says on standard error.
+use Rattle.std.specs.Prelude.{ℕ, List, [], ◌∷◌, ◌++◌, codes, decimal}
+use Rattle.js_tree.specs.declared.place.Pos.{Pos}
+use Rattle.cov_tool.specs.declared.line.Complaint.{Complaint}
+use Rattle.cov_tool.specs.declared.line.Complaint.TheVariants as complaint
+
+-- what may be said
+pub data Message : Type 0 where
+  Usage : Message
+  Syntax : (path : List ℕ) → (place : Pos) → Message
+  NotUtf8 : (path : List ℕ) → (at : ℕ) → Message
+  ReadFailed : (path : List ℕ) → Message
+  WriteFailed : Message
+  OutOfMemory : Message
+  TooLong : (path : List ℕ) → Message
+  NoFile : (path : List ℕ) → Message
+
+-- what a complaint of the code says
+abbrev pub message_of : Complaint → Message
+message_of complaint.Usage = Usage
+message_of (complaint.Syntax path place) = Syntax path.now place
+message_of (complaint.NotUtf8 path at) = NotUtf8 path.now at
+message_of (complaint.ReadFailed path) = ReadFailed path.now
+message_of complaint.WriteFailed = WriteFailed
+message_of complaint.OutOfMemory = OutOfMemory
+message_of (complaint.TooLong path) = TooLong path.now
+message_of (complaint.NoFile path) = NoFile path.now
+
+-- a message's bytes, without the line's end
+abbrev pub text : Message → List ℕ
+text Usage = codes "Usage: see cov --help"
+text (Syntax path place) = codes "Refused: " ++ path ++ codes ":" ++ decimal place.line ++ codes ":" ++ decimal place.column ++ codes ": syntax"
+text (NotUtf8 path at) = codes "Refused: " ++ path ++ codes ": not UTF-8 at byte " ++ decimal at
+text (ReadFailed path) = codes "Read failed: " ++ path
+text WriteFailed = codes "Write failed"
+text OutOfMemory = codes "Out of memory"
+text (TooLong path) = codes "Limit: " ++ path ++ codes " bytes"
+text (NoFile path) = codes "No file: " ++ path
+
+-- the line: the message's bytes, ended by LF
+abbrev pub line : Message → List ℕ
+line message = text message ++ 10 ∷ []

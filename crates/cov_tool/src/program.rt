@@ -1,0 +1,62 @@
+ghost use Rattle.std.specs.Prelude.{◌≡◌, ◌≢◌, ℕ, List, IsSome, map, string_bytes};
+ghost use Rattle.cov_base.specs.Causes.{Rose};
+ghost use Rattle.cov_base.specs.Sink.{TakesPrefix};
+ghost use Rattle.cov_tool.specs.Program.{IsDue, ExactlyWhere, IsUsage, IsOutput, PrintsMaps, PrintsNothing, SaysLine, SaysAtMost};
+
+use crate::complain::complain;
+use crate::line::Complaint;
+use crate::maps::maps;
+use crate::status::Status;
+use crate::words::{command_of, file_of};
+use cov_base::{Sink, Store};
+use std::alloc::Global;
+
+/// Does all that the program does: takes the words after the program's name, reads from the store,
+/// prints to `out`, complains on `err`, and gives the exit status.
+///
+/// Today there is one command, `maps FILE`: it prints the zero FileCoverage of a source file as
+/// Istanbul's JSON has it, and LF.
+pub fn cov<S: Store, O: Sink, E: Sink>(
+    alloc: Global,
+    words: &[String],
+    store: &mut S,
+    out: &mut O,
+    err: &mut E,
+) -> Status
+    // When each status comes. Want of memory may come at any point.
+    ensures ok { ExactlyWhere result Status.Ok (map string_bytes words.now) (S.held store.old) }
+    ensures usage { IsUsage result (map string_bytes words.now) }
+    ensures refused { ExactlyWhere result Status.Refused (map string_bytes words.now) (S.held store.old) }
+    ensures limit { ExactlyWhere result Status.Limit (map string_bytes words.now) (S.held store.old) }
+    ensures no_file { ExactlyWhere result Status.NoFile (map string_bytes words.now) (S.held store.old) }
+    ensures due { IsDue result (map string_bytes words.now) (S.held store.old) }
+    ensures read_fault { result ≡ Status.ReadFault → Rose (S.read_faults store.old) (S.read_faults store.new) }
+    ensures write_fault { result ≡ Status.WriteFault → Rose (O.faults out.old) (O.faults out.new) }
+
+    // What has been printed.
+    ensures printed { result ≡ Status.Ok
+        → PrintsMaps (map string_bytes words.now) (S.held store.old) (O.taken out.old) (O.taken out.new) }
+    ensures prefix { IsSome (S.held store.old) → (output : List ℕ)
+        → IsOutput (map string_bytes words.now) (S.held store.old) output
+        → TakesPrefix (O.taken out.old) (O.taken out.new) output }
+    ensures nothing { PrintsNothing result → O.taken out.new ≡ O.taken out.old }
+
+    // What the store holds stays, and so does its count of failed puts.
+    ensures unchanged { S.held store.new ≡ S.held store.old }
+    ensures puts { S.put_faults store.new ≡ S.put_faults store.old }
+
+    // What has been said: the status's line, or for want of memory a prefix of one line at most.
+    ensures says { result ≢ Status.Memory
+        → SaysLine result (map string_bytes words.now) (S.held store.old) (E.taken err.old) (E.taken err.new) (E.faults err.old) (E.faults err.new) }
+    ensures one_line { result ≡ Status.Memory
+        → SaysAtMost (map string_bytes words.now) (S.held store.old) (E.taken err.old) (E.taken err.new) }
+{
+    let Some(command) = command_of(words) else {
+        return complain(alloc, &Complaint::Usage, err);
+    };
+    let file = file_of(&command);
+    match maps(alloc, file, store, out) {
+        Ok(()) => Status::Ok,
+        Err(fault) => complain(alloc, &fault.at(file), err),
+    }
+}

@@ -1,0 +1,4 @@
+pub mod Cursor
+pub mod Limits
+pub mod Place
+pub mod Position

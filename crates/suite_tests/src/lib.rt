@@ -1,0 +1,21 @@
+//! The tests of the repository's libraries: what no contract says, with answers from outside.
+#![tactic(auto)]
+
+#[cfg(test)]
+mod call;
+#[cfg(test)]
+mod faults;
+#[cfg(test)]
+mod host;
+#[cfg(test)]
+mod maps;
+#[cfg(test)]
+mod refusals;
+#[cfg(test)]
+mod sinks;
+#[cfg(test)]
+mod stores;
+#[cfg(test)]
+mod texts;
+#[cfg(test)]
+mod trees;
