@@ -98,7 +98,11 @@ statements_read (G.more {s = s} {ss = ss} {ts = ts} {us = us} spelled others) do
 
 -- the statements of a file
 abbrev pub body_of : File → Stmts
-body_of (MakeFile ss) = ss
+body_of (MakeFile ss comments) = ss
+
+-- a file that is spelled has no comments
+pub whole : {tree : File} {ts : List Token} → Sentence tree ts → tree ≡ MakeFile (body_of tree) []
+whole (G.file l spelled) = refl
 
 pub complete : {tree : File} {ts : List Token} → Sentence tree ts → run begin ts ≡ Some (at (body_of tree) Finished)
 complete (G.file {ss = ss} l spelled) = statements_read spelled no_stmt (MakeToken End l ∷ [])

@@ -1,7 +1,7 @@
 -- From the cause of a fault to the status, the output and the line that are due.
 use Rattle.std.proofs.Common.{◌≡◌, ◌≢◌, ℕ, ◌<◌, ◌≤◌, ◌⊎◌, inl, inr, List, [], length, Option, None, Some, IsSome, refl, sym, ap, ◌∙◌, subst, arith, append-nil}
 use Rattle.std.specs.Str.{IsUtf8}
-use Rattle.js_tree.specs.Plain.{File, MakeFile}
+use Rattle.js_tree.specs.Plain.{File}
 use Rattle.js_text.specs.Limits.{source_limits}
 use Rattle.cov_base.specs.Store.{Held}
 use Rattle.cov_base.specs.Sink.{after_more, TakesPrefix}
@@ -16,18 +16,15 @@ use Rattle.cov_tool.specs.declared.fault.Fault.{Fault}
 use Rattle.cov_tool.specs.declared.fault.Fault.TheVariants as fault
 use Rattle.cov_tool.specs.declared.status.Status.{Status}
 use Rattle.cov_tool.specs.declared.status.Status.TheVariants as status
-use Rattle.cov_tool.proofs.Complete.{complete, body_of}
+use Rattle.cov_tool.proofs.Complete.{complete, body_of, whole}
 use Rattle.cov_tool.proofs.TokenPaths.{Stands, read_only}
 
 -- ---- a text has one tree
 
-whole : (tree : File) → tree ≡ MakeFile (body_of tree)
-whole (MakeFile ss) = refl
-
 pub one_tree : (text : List ℕ) (a b : File) → Reads text a → Reads text b → a ≡ b
 one_tree text a b r s =
     let stands : Stands (start_of text) r.end (at (body_of a) Finished) = record { tokens = r.tokens; lexed = r.lexed; taken = complete r.sentence } in
-    whole a ∙ sym (read_only (body_of a) stands b s.tokens s.end s.lexed s.sentence)
+    whole r.sentence ∙ sym (read_only (body_of a) stands b s.tokens s.end s.lexed s.sentence)
 
 -- ---- the status is due
 

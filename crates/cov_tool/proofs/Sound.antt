@@ -1,7 +1,7 @@
 -- What the machine has read, the tokens spell.
 use Rattle.std.proofs.Common.{◌≡◌, Bool, true, false, cond, List, [], ◌∷◌, ◌++◌, Option, Some, None, refl, sym, ap, ◌∙◌, subst, append_assoc, append-nil}
 use Rattle.js_tree.specs.declared.place.Loc.{Loc}
-use Rattle.js_tree.specs.Plain.{Expr, Name, Number, Call, Exprs, no_expr, more_expr, push_exprs, Stmt, Stmts, no_stmt, more_stmt, push_stmts, MakeFile}
+use Rattle.js_tree.specs.Plain.{Expr, IdentifierReference, NumericLiteral, Exprs, no_expr, more_expr, push_exprs, Stmt, Stmts, no_stmt, more_stmt, push_stmts, MakeFile}
 use Rattle.cov_tool.specs.Token.{Kind, Word, Numeral, OpenParenthesis, CloseParenthesis, Comma, Semicolon, End, Token, MakeToken}
 use Rattle.cov_tool.specs.Reserved.{is_reserved}
 use Rattle.cov_tool.specs.Grammar as G
@@ -50,10 +50,10 @@ before_comma c (G.and {a = a} {xs = xs} {ta = ta} {ts = ts} d first others) =
 operand_spelled : (k : Kind) (l : Loc) (e : Expr) → operand_of k l ≡ Some e → SpellsOperand e l (MakeToken k l ∷ [])
 operand_spelled (Word w) l e h = by_test (is_reserved w) refl h
   where
-    by_test : (b : Bool) → is_reserved w ≡ b → cond b None (Some (Name (Some l) w)) ≡ Some e → SpellsOperand e l (MakeToken (Word w) l ∷ [])
+    by_test : (b : Bool) → is_reserved w ≡ b → cond b None (Some (IdentifierReference (Some l) w)) ≡ Some e → SpellsOperand e l (MakeToken (Word w) l ∷ [])
     by_test true r h = cc
-    by_test false r h = let same : Name (Some l) w ≡ e = cc in subst (λ x. SpellsOperand x l (MakeToken (Word w) l ∷ [])) same (G.SpellsOperand.name r)
-operand_spelled (Numeral d) l e h = let same : Number (Some l) d ≡ e = cc in subst (λ x. SpellsOperand x l (MakeToken (Numeral d) l ∷ [])) same G.number
+    by_test false r h = let same : IdentifierReference (Some l) w ≡ e = cc in subst (λ x. SpellsOperand x l (MakeToken (Word w) l ∷ [])) same (G.SpellsOperand.name r)
+operand_spelled (Numeral d) l e h = let same : NumericLiteral (Some l) d ≡ e = cc in subst (λ x. SpellsOperand x l (MakeToken (Numeral d) l ∷ [])) same G.number
 operand_spelled OpenParenthesis l e h = cc
 operand_spelled CloseParenthesis l e h = cc
 operand_spelled Comma l e h = cc
@@ -82,10 +82,9 @@ have_spelled : (ss : Stmts) (ts te : List Token) (e : Expr) (le : Loc) (k : Kind
     Steps (have ss e le k l) ((ts ++ te) ++ MakeToken k l ∷ [])
 have_spelled ss ts te e le Semicolon l s x =
     moved_to (sym (append_assoc ts te (MakeToken Semicolon l ∷ []))) (starts (statements_push s (G.expression l x)))
-have_spelled ss ts te (Number ln d) le OpenParenthesis l s x = tt
-have_spelled ss ts te (Call lc f xs) le OpenParenthesis l s x = tt
-have_spelled ss ts te (Name ln w) le OpenParenthesis l s (G.operand x) =
+have_spelled ss ts te (IdentifierReference ln w) le OpenParenthesis l s (G.operand x) =
     moved_to (sym (append_assoc ts te (MakeToken OpenParenthesis l ∷ []))) (wants l refl s x none)
+have_spelled ss ts te e le OpenParenthesis l s x = tt
 have_spelled ss ts te e le (Word w) l s x = tt
 have_spelled ss ts te e le (Numeral d) l s x = tt
 have_spelled ss ts te e le CloseParenthesis l s x = tt
@@ -161,8 +160,8 @@ run_spelled {ss} {m} {ts} s (MakeToken k l ∷ us) =
     goes_on None h go = tt
     goes_on (Some (at rs n)) h go = subst (λ vs. Steps (run (at rs n) us) vs) (append_assoc ts (MakeToken k l ∷ []) us) (go rs n h)
 
-finished : {ss : Stmts} {ts : List Token} → Spelled ss Finished ts → Sentence (MakeFile ss) ts
+finished : {ss : Stmts} {ts : List Token} → Spelled ss Finished ts → Sentence (MakeFile ss []) ts
 finished (ends l s) = G.file l s
 
-pub sound : (ss : Stmts) (ts : List Token) → run begin ts ≡ Some (at ss Finished) → Sentence (MakeFile ss) ts
+pub sound : (ss : Stmts) (ts : List Token) → run begin ts ≡ Some (at ss Finished) → Sentence (MakeFile ss []) ts
 sound ss ts h = finished (subst (λ o. Steps o ts) h (run_spelled (starts G.SpellsStatements.none) ts))

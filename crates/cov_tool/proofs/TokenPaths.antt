@@ -5,7 +5,7 @@ use Rattle.js_text.specs.Place.{Place}
 use Rattle.cov_tool.specs.Token.{Token, MakeToken, Lexes, nothing, more, next_token}
 use Rattle.cov_tool.specs.Grammar.{Sentence}
 use Rattle.cov_tool.specs.Machine.{Finished, Config, at, step, then_run, run, begin}
-use Rattle.cov_tool.proofs.Complete.{run-append, complete, body_of}
+use Rattle.cov_tool.proofs.Complete.{run-append, complete, body_of, whole}
 use Rattle.cov_tool.proofs.Sound.{sound}
 
 pub lexes-append : {p q r : Place} {ts us : List Token} → Lexes p ts q → Lexes q us r → Lexes p (ts ++ us) r
@@ -104,17 +104,17 @@ refused c t s going e none tree tokens end lexed sentence =
     let r = n.5 in cc
 
 -- the file has ended: its tokens are a sentence for the tree that was read
-pub read_whole : {text here : Place} (ss : Stmts) (s : Stands text here (at ss Finished)) → Sentence (MakeFile ss) s.tokens
+pub read_whole : {text here : Place} (ss : Stmts) (s : Stands text here (at ss Finished)) → Sentence (MakeFile ss []) s.tokens
 read_whole ss s = sound ss s.tokens s.taken
 
 -- and for no other
-pub read_only : {text here : Place} (ss : Stmts) → Stands text here (at ss Finished) → (tree : File) (tokens : List Token) (end : Place) → Lexes text tokens end → Sentence tree tokens → tree ≡ MakeFile ss
+pub read_only : {text here : Place} (ss : Stmts) → Stands text here (at ss Finished) → (tree : File) (tokens : List Token) (end : Place) → Lexes text tokens end → Sentence tree tokens → tree ≡ MakeFile ss []
 read_only ss s tree tokens end lexed sentence =
     let found = goes_on begin (at ss Finished) (body_of tree) s.lexed lexed s.taken (complete sentence) in
     let rest : run (at ss Finished) found.others ≡ Some (at (body_of tree) Finished) =
     sym (run-append begin s.tokens found.others ∙ ap (λ o. then_run o (λ x. run x found.others)) s.taken) ∙ ap (run begin) (sym found.joins) ∙ complete sentence in
-    by_rest tree found.others rest
+    whole sentence ∙ ap (λ rs. MakeFile rs []) (by_rest (body_of tree) found.others rest)
   where
-    by_rest : (tree : File) (others : List Token) → run (at ss Finished) others ≡ Some (at (body_of tree) Finished) → tree ≡ MakeFile ss
-    by_rest (MakeFile rs) [] r = let same : ss ≡ rs = cc in ap MakeFile (sym same)
-    by_rest (MakeFile rs) (t ∷ ts) r = let none = finished_stops ss t ts in absurd cc
+    by_rest : (rs : Stmts) (others : List Token) → run (at ss Finished) others ≡ Some (at rs Finished) → rs ≡ ss
+    by_rest rs [] r = let same : ss ≡ rs = cc in sym same
+    by_rest rs (t ∷ ts) r = let none = finished_stops ss t ts in absurd cc

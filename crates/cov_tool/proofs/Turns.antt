@@ -135,7 +135,7 @@ refuses_text text here ss m (why_refused.Syntax place) s h r =
 refuses_text text here ss m why_refused.Memory s h r = tt
 
 -- a finished reader has read the text
-pub reads_text : (text : List ℕ) (here : Place) (ss : Stmts) (m : Mode) → Stands (start_of text) here (at ss m) → is_finished m ≡ true → Reads text (MakeFile ss)
+pub reads_text : (text : List ℕ) (here : Place) (ss : Stmts) (m : Mode) → Stands (start_of text) here (at ss m) → is_finished m ≡ true → Reads text (MakeFile ss [])
 reads_text text here ss m s h =
     let end : Stands (start_of text) here (at ss Finished) = subst (λ x. Stands (start_of text) here (at ss x)) (finished_mode m h) s in
     record { tokens = end.tokens; end = here; lexed = end.lexed; sentence = read_whole ss end }

@@ -2,7 +2,7 @@
 -- or a call with its `;`. A constructor a production; a location is from the first token to the last.
 use Rattle.std.specs.Prelude.{◌≡◌, ℕ, Bool, true, false, List, [], ◌∷◌, ◌++◌, Some}
 use Rattle.js_tree.specs.declared.place.Loc.{Loc}
-use Rattle.js_tree.specs.Plain.{Expr, Name, Number, Call, Exprs, no_expr, more_expr, Stmt, Expression, Stmts, no_stmt, more_stmt, File, MakeFile}
+use Rattle.js_tree.specs.Plain.{Expr, IdentifierReference, NumericLiteral, Call, Exprs, no_expr, more_expr, Stmt, Expression, Stmts, no_stmt, more_stmt, File, MakeFile}
 use Rattle.cov_tool.specs.Token.{Word, Numeral, OpenParenthesis, CloseParenthesis, Comma, Semicolon, End, Token, MakeToken}
 use Rattle.cov_tool.specs.Reserved.{is_reserved}
 
@@ -12,14 +12,13 @@ through first last = record { start = first.start; end = last.end }
 
 -- only a name is called
 abbrev pub may_be_called : Expr → Bool
-may_be_called (Name l word) = true
-may_be_called (Number l digits) = false
-may_be_called (Call l callee arguments) = false
+may_be_called (IdentifierReference l word) = true
+may_be_called _ = false
 
 -- an identifier reference (13.1) or a numeric literal (13.2.3)
 pub data SpellsOperand : Expr → Loc → List Token → Type 0 where
-  name : {word : List ℕ} {l : Loc} → is_reserved word ≡ false → SpellsOperand (Name (Some l) word) l (MakeToken (Word word) l ∷ [])
-  number : {digits : List ℕ} {l : Loc} → SpellsOperand (Number (Some l) digits) l (MakeToken (Numeral digits) l ∷ [])
+  name : {word : List ℕ} {l : Loc} → is_reserved word ≡ false → SpellsOperand (IdentifierReference (Some l) word) l (MakeToken (Word word) l ∷ [])
+  number : {digits : List ℕ} {l : Loc} → SpellsOperand (NumericLiteral (Some l) digits) l (MakeToken (Numeral digits) l ∷ [])
 
 -- one argument or more, a comma between two (13.3)
 pub data SpellsArguments : Exprs → List Token → Type 0 where
@@ -48,6 +47,6 @@ pub data SpellsStatements : Stmts → List Token → Type 0 where
   none : SpellsStatements no_stmt []
   more : {s : Stmt} {ss : Stmts} {ts us : List Token} → SpellsStatement s ts → SpellsStatements ss us → SpellsStatements (more_stmt s ss) (ts ++ us)
 
--- a whole file: its statements, and the end
+-- a whole file: its statements, and the end; no comment is a token or a gap, and so the file has none
 pub data Sentence : File → List Token → Type 0 where
-  file : {ss : Stmts} {ts : List Token} (l : Loc) → SpellsStatements ss ts → Sentence (MakeFile ss) (ts ++ MakeToken End l ∷ [])
+  file : {ss : Stmts} {ts : List Token} (l : Loc) → SpellsStatements ss ts → Sentence (MakeFile ss []) (ts ++ MakeToken End l ∷ [])

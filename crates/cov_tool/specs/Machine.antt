@@ -1,7 +1,7 @@
 -- The reader as a machine: one step for each token.
 use Rattle.std.specs.Prelude.{List, [], ◌∷◌, Option, Some, None, if◌then◌else◌}
 use Rattle.js_tree.specs.declared.place.Loc.{Loc}
-use Rattle.js_tree.specs.Plain.{Expr, Name, Number, Call, Exprs, no_expr, more_expr, push_exprs, Expression, Stmts, no_stmt, push_stmts}
+use Rattle.js_tree.specs.Plain.{Expr, IdentifierReference, NumericLiteral, Call, Exprs, no_expr, more_expr, push_exprs, Expression, Stmts, no_stmt, push_stmts}
 use Rattle.cov_tool.specs.Token.{Kind, Word, Numeral, OpenParenthesis, CloseParenthesis, Comma, Semicolon, End, Token, MakeToken}
 use Rattle.cov_tool.specs.Reserved.{is_reserved}
 use Rattle.cov_tool.specs.Grammar.{through, may_be_called}
@@ -25,8 +25,8 @@ pub data Config : Type 0 where
 
 -- the operand that a token is
 abbrev pub operand_of : Kind → Loc → Option Expr
-operand_of (Word word) l = if is_reserved word then None else Some (Name (Some l) word)
-operand_of (Numeral digits) l = Some (Number (Some l) digits)
+operand_of (Word word) l = if is_reserved word then None else Some (IdentifierReference (Some l) word)
+operand_of (Numeral digits) l = Some (NumericLiteral (Some l) digits)
 operand_of k l = None
 
 abbrev pub on_operand : Option Expr → (Expr → Config) → Option Config
@@ -52,9 +52,13 @@ abbrev pub close_empty : Stmts → Expr → Loc → Exprs → Loc → Option Con
 close_empty ss f l no_expr c = Some (closed ss f l no_expr c)
 close_empty ss f l (more_expr a xs) c = None
 
+-- one argument more
+abbrev pub argument : Stmts → Expr → Loc → Exprs → Kind → Loc → Option Config
+argument ss f l xs k c = on_operand (operand_of k c) (λ e. at ss (Listed f l (push_exprs xs e)))
+
 abbrev pub want : Stmts → Expr → Loc → Exprs → Kind → Loc → Option Config
 want ss f l xs CloseParenthesis c = close_empty ss f l xs c
-want ss f l xs k c = on_operand (operand_of k c) (λ e. at ss (Listed f l (push_exprs xs e)))
+want ss f l xs k c = argument ss f l xs k c
 
 abbrev pub listed : Stmts → Expr → Loc → Exprs → Kind → Loc → Option Config
 listed ss f l xs Comma c = Some (at ss (Want f l xs))

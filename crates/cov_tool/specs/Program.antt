@@ -2,7 +2,7 @@
 use Rattle.std.specs.Prelude.{◌≡◌, ℕ, ◌<◌, ◌≤◌, ◌⊎◌, List, [], ◌∷◌, ◌++◌, length, take, Option, None, Some, IfSome, IsSome}
 use Rattle.std.specs.Str.{IsUtf8}
 use Rattle.std.specs.Str.Lossy.{utf8_valid_len}
-use Rattle.js_tree.specs.Plain.{Expression, Stmts, no_stmt, more_stmt, File, MakeFile}
+use Rattle.js_tree.specs.Plain.{Stmt, Expression, Stmts, no_stmt, more_stmt, File, MakeFile}
 use Rattle.js_tree.specs.declared.place.Loc.{Loc}
 use Rattle.js_text.specs.Limits.{source_limits}
 use Rattle.js_text.specs.Place.{Place}
@@ -20,15 +20,25 @@ use Rattle.cov_tool.specs.declared.status.Status.TheVariants as status
 
 -- ---- what is printed
 
--- the places of the statements: each is a construct that is counted, but for those that were inserted
+-- the place of a statement that is counted: of an expression statement, the only kind that a file has so far, unless it
+-- was inserted
+abbrev pub counted_at : Stmt → Option Loc
+counted_at (Expression place e) = place
+counted_at _ = None
+
+-- a place before others, where there is one
+abbrev pub place_and : Option Loc → List Loc → List Loc
+place_and None ls = ls
+place_and (Some l) ls = l ∷ ls
+
+-- the places of the statements that are counted
 abbrev pub statement_locations : Stmts → List Loc
 statement_locations no_stmt = []
-statement_locations (more_stmt (Expression None e) ss) = statement_locations ss
-statement_locations (more_stmt (Expression (Some l) e) ss) = l ∷ statement_locations ss
+statement_locations (more_stmt s ss) = place_and (counted_at s) (statement_locations ss)
 
 -- the zero FileCoverage of a file and LF
 abbrev pub maps_text : List ℕ → List ℕ → File → List ℕ
-maps_text path bytes (MakeFile body) = zero_coverage_text path (hash_text bytes) (statement_locations body) ++ 0x0A ∷ []
+maps_text path bytes (MakeFile body comments) = zero_coverage_text path (hash_text bytes) (statement_locations body) ++ 0x0A ∷ []
 
 -- ---- when each status is due; `told` is what the store holds, where it tells
 

@@ -59,9 +59,8 @@ fn may_be_called(expression: &Expr) -> bool
     ensures { result ≡ grammar.may_be_called (plain_expr expression.now) }
 {
     match &expression.node {
-        ExprNode::Name(_) => true,
-        ExprNode::Number(_) => false,
-        ExprNode::Call(_, _) => false,
+        ExprNode::IdentifierReference(_) => true,
+        _ => false,
     }
 }
 
@@ -74,9 +73,9 @@ fn operand(alloc: Global, token: &Token<'_>) -> Result<Expr, Stop>
             if is_reserved(word) {
                 return Err(Stop::Syntax);
             }
-            ExprNode::Name(Text::from_str(alloc, word)?)
+            ExprNode::IdentifierReference(Text::from_str(alloc, word)?)
         }
-        TokenKind::Numeral(digits) => ExprNode::Number(Text::from_str(alloc, digits)?),
+        TokenKind::Numeral(digits) => ExprNode::NumericLiteral(Text::from_str(alloc, digits)?),
         TokenKind::OpenParenthesis
         | TokenKind::CloseParenthesis
         | TokenKind::Comma
@@ -134,7 +133,7 @@ fn have(
         TokenKind::Semicolon => {
             body.push(Stmt {
                 loc: Some(through(loc, token.loc)),
-                node: StmtNode::Expression(expression),
+                node: StmtNode::Expression(Boxed::new(alloc, expression)?),
             })?;
             Ok(Mode::Start)
         }
@@ -148,27 +147,49 @@ fn have(
     }
 }
 
-/// An argument is due, or nothing stands between the parentheses.
-fn want(
+/// The call is closed where an argument is due: it has none, or ends with a comma.
+fn close_empty(
+    alloc: Global,
+    callee: Expr,
+    loc: Loc,
+    arguments: Items<Expr>,
+    close: Loc,
+) -> Result<Mode, Stop>
+    ensures { (ss : plain.Stmts) → Gives result ss (machine.close_empty ss (plain_expr callee) loc (plain_exprs arguments) close) }
+{
+    if !arguments.is_empty() {
+        return Err(Stop::Syntax);
+    }
+    closed(alloc, callee, loc, arguments, close)
+}
+
+/// One argument more.
+fn argument(
     alloc: Global,
     callee: Expr,
     loc: Loc,
     mut arguments: Items<Expr>,
     token: &Token<'_>,
 ) -> Result<Mode, Stop>
+    ensures { (ss : plain.Stmts) → Gives result ss (machine.argument ss (plain_expr callee) loc (plain_exprs arguments) (kind_of token.now.kind) token.now.loc) }
+{
+    arguments.push(operand(alloc, token)?)?;
+    Ok(Mode::Listed(callee, loc, arguments))
+}
+
+/// An argument is due, or nothing stands between the parentheses.
+fn want(
+    alloc: Global,
+    callee: Expr,
+    loc: Loc,
+    arguments: Items<Expr>,
+    token: &Token<'_>,
+) -> Result<Mode, Stop>
     ensures { (ss : plain.Stmts) → Gives result ss (machine.want ss (plain_expr callee) loc (plain_exprs arguments) (kind_of token.now.kind) token.now.loc) }
 {
     match token.kind {
-        TokenKind::CloseParenthesis => {
-            if !arguments.is_empty() {
-                return Err(Stop::Syntax);
-            }
-            closed(alloc, callee, loc, arguments, token.loc)
-        }
-        _ => {
-            arguments.push(operand(alloc, token)?)?;
-            Ok(Mode::Listed(callee, loc, arguments))
-        }
+        TokenKind::CloseParenthesis => close_empty(alloc, callee, loc, arguments, token.loc),
+        _ => argument(alloc, callee, loc, arguments, token),
     }
 }
 

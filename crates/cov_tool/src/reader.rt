@@ -66,5 +66,8 @@ pub(crate) fn read(alloc: Global, text: &str) -> Result<File, Refused>
     while !is_finished(&mode) {
         mode = turn(alloc, &mut lexer, &mut body, mode)?;
     }
-    Ok(File { body })
+    Ok(File {
+        body,
+        comments: Items::new(alloc),
+    })
 }

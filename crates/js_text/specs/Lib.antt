@@ -1,4 +1,9 @@
+pub mod Character
 pub mod Cursor
+pub mod Lex
 pub mod Limits
 pub mod Place
 pub mod Position
+pub mod Punctuator
+pub mod Reserved
+pub mod Token

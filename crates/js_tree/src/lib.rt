@@ -1,8 +1,19 @@
 //! The syntax tree of a JavaScript file, and the places in its text.
 #![tactic(auto)]
 
+mod operators;
 mod place;
 mod tree;
+mod words;
 
+pub use operators::{
+    AssignmentOperator, BinaryOperator, LogicalOperator, UnaryOperator, UpdateOperator,
+    VariableKind,
+};
 pub use place::{Loc, Pos};
-pub use tree::{Expr, ExprNode, File, Name, Stmt, StmtNode};
+pub use tree::{
+    Case, Catch, ConciseBody, Declarator, Expr, ExprNode, File, ForInit, ForTarget, Function,
+    FunctionBody, Param, Pattern, PatternNode, Property, PropertyKey, PropertyNode, Stmt, StmtNode,
+    TemplatePart,
+};
+pub use words::{Comment, Identifier, Name, Spelled};

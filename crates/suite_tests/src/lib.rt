@@ -12,10 +12,14 @@ mod maps;
 #[cfg(test)]
 mod refusals;
 #[cfg(test)]
+mod shapes;
+#[cfg(test)]
 mod sinks;
 #[cfg(test)]
 mod stores;
 #[cfg(test)]
 mod texts;
+#[cfg(test)]
+mod tokens;
 #[cfg(test)]
 mod trees;

@@ -1,5 +1,5 @@
 -- The statement at the index adds its place, where it has one.
-use Rattle.std.proofs.Common.{◌++◌, Vec, Global, ap, ◌∙◌, drop, ◌+◌}
+use Rattle.std.proofs.Common.{◌++◌, Vec, Global, ap, sym, ◌∙◌, drop, ◌+◌}
 use Rattle.js_tree.specs.declared.place.Loc.{Loc}
 use Rattle.js_tree.specs.Tree.{plain_stmts}
 use Rattle.cov_tool.specs.Program.{statement_locations}
@@ -12,14 +12,14 @@ loop-statement-preserved c =
     let body = c.args.body.now in
     let i = c.loop-statement.statement-index in
     let here : At body i c.statement-item.result = (c.loop-statement-test.true, c.statement-item.is) in
-    elim c.match-statement.branch [
+    elim c.match-counted_at.branch [
       | in-Some+in_ok-push w ↦
           ap (λ (v : Vec Loc Global). v.items ++ statement_locations (plain_stmts (drop (i + 1) body))) w.locations-is
           ∙ ap (λ xs. xs ++ statement_locations (plain_stmts (drop (i + 1) body))) w.in_ok-push.ensures.items
-          ∙ located_more body i c.statement-item.result w.in-Some.loc c.loop-statement.locations.items here w.in-Some.is
+          ∙ located_more body i c.statement-item.result w.in-Some.loc c.loop-statement.locations.items here (sym c.counted_at.ensures ∙ w.in-Some.is)
           ∙ c.loop-statement.invariant
       | in_default w ↦
           ap (λ (v : Vec Loc Global). v.items ++ statement_locations (plain_stmts (drop (i + 1) body))) w.locations-is
-          ∙ inserted_more body i c.statement-item.result c.loop-statement.locations.items here w.in_default.is
+          ∙ inserted_more body i c.statement-item.result c.loop-statement.locations.items here (sym c.counted_at.ensures ∙ w.in_default.is)
           ∙ c.loop-statement.invariant
     ]

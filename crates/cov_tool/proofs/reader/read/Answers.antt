@@ -1,10 +1,11 @@
 -- Each turn leads on, and the exits are those of a text with a tree and of one without.
 use Rattle.std.proofs.Common.{sym, ◌∙◌, subst}
 use Rattle.std.proofs.lemmas.Result.{err_from_is_err_and}
+use Rattle.js_tree.specs.Plain.{MakeFile}
 use Rattle.js_tree.specs.Tree.{plain_stmts}
 use Rattle.js_text.specs.Place.{Place}
 use Rattle.cov_tool.specs.Machine.{Start, at, begin}
-use Rattle.cov_tool.specs.Reads.{start_of}
+use Rattle.cov_tool.specs.Reads.{Reads, start_of}
 use Rattle.cov_tool.specs.View.{mode_of}
 use Rattle.cov_tool.proofs.TokenPaths.{Stands, stands_at_start}
 use Rattle.cov_tool.proofs.Turns.{turns_left-falls, refuses_text, reads_text, stands_on}
@@ -32,4 +33,7 @@ returns-in_err-mode-clause-refused c =
     (sym c.is_finished.ensures ∙ c.loop-lexer-test.true) c.in_err-mode.ensures.refused)
 
 pub returns-clause-tree : goal.returns-clause-tree
-returns-clause-tree c = reads_text c.args.text.now c.loop-lexer.lexer.cursor (plain_stmts c.loop-lexer.body) (mode_of c.loop-lexer.mode) c.loop-lexer.invariant (sym c.is_finished.ensures ∙ c.loop-lexer-test.false)
+returns-clause-tree c =
+    subst (λ comments. Reads c.args.text.now (MakeFile (plain_stmts c.loop-lexer.body) comments)) (sym c.new.ensures)
+    (reads_text c.args.text.now c.loop-lexer.lexer.cursor (plain_stmts c.loop-lexer.body) (mode_of c.loop-lexer.mode) c.loop-lexer.invariant
+    (sym c.is_finished.ensures ∙ c.loop-lexer-test.false))

@@ -1,0 +1,44 @@
+use crate::Punctuator;
+use js_tree::Loc;
+
+/// What a token is. A word, a numeral and a string literal lend their spelling from the text.
+#[derive(Clone, Copy, Debug, PartialEq, Eq)]
+pub enum TokenKind<'a> {
+    /// An identifier's name, also a reserved word.
+    Word(&'a str),
+    /// A decimal number.
+    Numeral(&'a str),
+    /// A string literal with its quotes.
+    StringLiteral(&'a str),
+    /// A punctuator.
+    Punctuator(Punctuator),
+    /// The end of the text.
+    End,
+}
+
+/// A part of a text, in bytes from the text's start: from its start up to, and without, its end.
+#[derive(Clone, Copy, Debug, PartialEq, Eq)]
+pub struct Span {
+    /// How many bytes stand before the part.
+    pub start: usize,
+    /// How many bytes stand before its end.
+    pub end: usize,
+}
+
+/// A token, where it stands, and what stands before it.
+#[derive(Clone, Copy, Debug, PartialEq, Eq)]
+pub struct Token<'a> {
+    /// What it is.
+    pub kind: TokenKind<'a>,
+    /// How many bytes of the text stand before it.
+    pub start: usize,
+    /// How many bytes of the text stand before its end.
+    pub end: usize,
+    /// Its lines and columns.
+    pub loc: Loc,
+    /// Whether a line terminator stands between the token before and this one.
+    pub line_terminator_before: bool,
+    /// From the start of the first comment between the two to the end of the last. Where there is
+    /// none, both are the start of this token.
+    pub comments: Span,
+}

@@ -1,0 +1,27 @@
+-- The classes of characters in a source text (ECMA-262, 12).
+use Rattle.std.specs.Prelude.{ℕ, ◌==◌, Bool, ◌||◌}
+use Rattle.std.specs.Int.{is_in_range}
+use Rattle.std.specs.Char.{is_ascii_digit}
+use Rattle.unicode_ident.specs.Ident.{is_xid_start, is_xid_continue}
+use Rattle.js_text.specs.Position.{is_line_terminator}
+
+-- white space (12.2): TAB, VT, FF, ZWNBSP, and the characters of the category Space_Separator
+abbrev pub is_white_space : ℕ → Bool
+is_white_space c = (c == 0x09) || (c == 0x0B) || (c == 0x0C) || (c == 0x20) || (c == 0xA0) || (c == 0xFEFF)
+    || (c == 0x1680) || is_in_range 0x2000 0x200A c || (c == 0x202F) || (c == 0x205F) || (c == 0x3000)
+
+-- white space and line terminators (12.2, 12.3)
+unfoldable pub is_gap : ℕ → Bool
+is_gap c = is_white_space c || is_line_terminator c
+
+-- what an identifier starts with (12.7), without escapes: `$` and `_`, and what Unicode lets stand there
+unfoldable pub starts_identifier : ℕ → Bool
+starts_identifier c = is_xid_start c || (c == 0x24) || (c == 0x5F)
+
+-- what it goes on with: `$`, ZWNJ and ZWJ besides
+unfoldable pub continues_identifier : ℕ → Bool
+continues_identifier c = is_xid_continue c || (c == 0x24) || (c == 0x200C) || (c == 0x200D)
+
+-- a decimal digit (12.9.3)
+unfoldable pub is_digit : ℕ → Bool
+is_digit c = is_ascii_digit c
