@@ -1,0 +1,4 @@
+pub mod Files
+pub mod Numbered
+pub mod Plain
+pub mod Sample

@@ -1,0 +1,57 @@
+ghost use Rattle.std.specs.Prelude.{◌≡◌, ◌<◌, Some, None, IsSome, IfSome};
+
+use js_tree::Loc;
+
+/// A place in a source text.
+#[derive(Clone, Copy, Debug)]
+pub struct Position {
+    /// The line, from 1.
+    pub line: u32,
+    /// The column, from 0, in UTF-16 units; `None` is the line's end.
+    pub column: Option<u32>,
+    ghost from_one: { 0 < line },
+}
+
+/// A part of a source text, up to and without its end. A part that stands nowhere, as the `else`
+/// that an `if` lacks, has neither a start nor an end.
+#[derive(Clone, Copy, Debug)]
+pub struct Location {
+    /// Where the part's first character stands.
+    pub start: Option<Position>,
+    /// Where the part ends: the place after its last character.
+    pub end: Option<Position>,
+}
+
+impl Location {
+    /// The part of a text that a syntax tree tells, whose lines count from 1.
+    pub fn from_loc(loc: Loc) -> Location
+        requires start_line { 0 < loc.start.line }
+        requires end_line { 0 < loc.end.line }
+        ensures start { IfSome result.start (λ place. (place.line ≡ loc.start.line) × (place.column ≡ Some loc.start.column)) }
+        ensures has_start { IsSome result.start }
+        ensures end { IfSome result.end (λ place. (place.line ≡ loc.end.line) × (place.column ≡ Some loc.end.column)) }
+        ensures has_end { IsSome result.end }
+    {
+        Location {
+            start: Some(Position {
+                line: loc.start.line,
+                column: Some(loc.start.column),
+            }),
+            end: Some(Position {
+                line: loc.end.line,
+                column: Some(loc.end.column),
+            }),
+        }
+    }
+
+    /// No part at all.
+    pub fn nowhere() -> Location
+        ensures start { result.start ≡ None }
+        ensures end { result.end ≡ None }
+    {
+        Location {
+            start: None,
+            end: None,
+        }
+    }
+}
