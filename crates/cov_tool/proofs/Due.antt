@@ -1,30 +1,47 @@
 -- From the cause of a fault to the status, the output and the line that are due.
 use Rattle.std.proofs.Common.{◌≡◌, ◌≢◌, ℕ, ◌<◌, ◌≤◌, ◌⊎◌, inl, inr, List, [], length, Option, None, Some, IsSome, refl, sym, ap, ◌∙◌, subst, arith, append-nil}
+use Rattle.std.specs.Prelude.{option_map}
 use Rattle.std.specs.Str.{IsUtf8}
+use Rattle.js_tree.specs.declared.place.Pos.{Pos}
 use Rattle.js_tree.specs.Plain.{File}
+use Rattle.js_tree.specs.Height.{height_file}
 use Rattle.js_text.specs.Limits.{source_limits}
+use Rattle.js_text.specs.Reads.{Reads, NoTree, TooHigh}
+use Rattle.js_scopes.specs.Accepted.{Accepted}
+use Rattle.js_scopes.specs.Checks.{first_reserved}
 use Rattle.cov_base.specs.Store.{Held}
 use Rattle.cov_base.specs.Sink.{after_more, TakesPrefix}
 use Rattle.cov_tool.specs.Line as said
-use Rattle.cov_tool.specs.Words.{Maps, command_of}
-use Rattle.cov_tool.specs.Reads.{Reads, Accepted, start_of}
-use Rattle.cov_tool.specs.Machine.{Finished, at}
+use Rattle.cov_tool.specs.Words.{Maps, command_of, request_of}
+use Rattle.cov_tool.specs.declared.words.Command.{Command}
 use Rattle.cov_tool.specs.Program as P
 use Rattle.cov_tool.specs.Program.{Finds, IsTooLong, IsRefused, IsAccepted, IsDue, GivesWay, ExactlyWhere, IsOutput, maps_text, IsRefusal, IsMessage, IsLine, IsUsage, Says, SaysLine, SaysAtMost}
-use Rattle.cov_tool.specs.Cause.{Holds, IsCause, message_at, status_of, PrintsAtMost, nothing, some}
+use Rattle.cov_tool.specs.Cause.{Holds, HasOnly, IsCause, message_at, status_of, PrintsAtMost, nothing, some}
 use Rattle.cov_tool.specs.declared.fault.Fault.{Fault}
 use Rattle.cov_tool.specs.declared.fault.Fault.TheVariants as fault
 use Rattle.cov_tool.specs.declared.status.Status.{Status}
 use Rattle.cov_tool.specs.declared.status.Status.TheVariants as status
-use Rattle.cov_tool.proofs.Complete.{complete, body_of, whole}
-use Rattle.cov_tool.proofs.TokenPaths.{Stands, read_only}
 
--- ---- a text has one tree
+-- ---- bytes that are no source
 
-pub one_tree : (text : List ℕ) (a b : File) → Reads text a → Reads text b → a ≡ b
-one_tree text a b r s =
-    let stands : Stands (start_of text) r.end (at (body_of a) Finished) = record { tokens = r.tokens; lexed = r.lexed; taken = complete r.sentence } in
-    whole r.sentence ∙ sym (read_only (body_of a) stands b s.tokens s.end s.lexed s.sentence)
+abbrev pub IsNoSource : List ℕ → Type 0
+IsNoSource bytes = (tree : File) → Accepted bytes tree → ⊥
+
+not_utf8 : (bytes : List ℕ) → (IsUtf8 bytes → ⊥) → IsNoSource bytes
+not_utf8 bytes fails tree accepted = fails accepted.utf8
+
+no_tree : (bytes : List ℕ) (at : ℕ) → NoTree bytes at → IsNoSource bytes
+no_tree bytes at refused tree accepted = refused.none tree accepted.reads
+
+too_high : (bytes : List ℕ) (at : ℕ) → TooHigh bytes at source_limits.height → IsNoSource bytes
+too_high bytes at refused tree accepted =
+    let high : source_limits.height < height_file tree = refused.higher tree accepted.reads in
+    let low : height_file tree ≤ source_limits.height = accepted.low in omega arith
+
+broken : (bytes : List ℕ) (place : Pos) (tree : File) → HasOnly bytes tree → first_reserved tree ≡ Some place → IsNoSource bytes
+broken bytes place tree only rule other accepted =
+    let same : first_reserved other ≡ first_reserved tree = ap first_reserved (only other accepted.reads) in
+    let unbroken : first_reserved other ≡ None = accepted.unbroken in cc
 
 -- ---- the status is due
 
@@ -33,18 +50,17 @@ module _ (words : List (List ℕ)) (told : Option Held) where
   finds path found named held = record { named = named; held = held }
 
   -- bytes that are refused
-  refused_utf8 : (path bytes : List ℕ) → command_of words ≡ Some (Maps path) → Holds told path (Some bytes) → length bytes ≤ source_limits.bytes → (IsUtf8 bytes → ⊥) → IsRefused words told path bytes
-  refused_utf8 path bytes named held within fails = record { finds = finds path (Some bytes) named held; within = within; no_source = λ tree a. fails a.utf8 }
-
-  refused_syntax : (path bytes : List ℕ) → command_of words ≡ Some (Maps path) → Holds told path (Some bytes) → length bytes ≤ source_limits.bytes → ((tree : File) → Reads bytes tree → ⊥) → IsRefused words told path bytes
-  refused_syntax path bytes named held within fails = record { finds = finds path (Some bytes) named held; within = within; no_source = λ tree a. fails tree a.reads }
+  refused : (path bytes : List ℕ) → command_of words ≡ Some (Maps path) → Holds told path (Some bytes) → length bytes ≤ source_limits.bytes → IsNoSource bytes → IsRefused words told path bytes
+  refused path bytes named held within never = record { finds = finds path (Some bytes) named held; within = within; no_source = never }
 
   fault_is_due : (path : List ℕ) → command_of words ≡ Some (Maps path) → (why : Fault) → IsCause why told path → IsDue (status_of (message_at why path)) words told
   fault_is_due path named fault.NoFile cause = (path, finds path None named cause)
   fault_is_due path named fault.ReadFailed cause = (path, named)
   fault_is_due path named fault.TooLong cause = (path, record { bytes = cause.0; finds = finds path (Some cause.0) named cause.1; longer = cause.2 })
-  fault_is_due path named (fault.NotUtf8 n) cause = (path, cause.0, refused_utf8 path cause.0 named cause.1 cause.2.0 cause.2.1)
-  fault_is_due path named (fault.Syntax n) cause = (path, cause.0, refused_syntax path cause.0 named cause.1 cause.2.0 cause.2.2)
+  fault_is_due path named (fault.NotUtf8 n) cause = (path, cause.0, refused path cause.0 named cause.1 cause.2.0 (not_utf8 cause.0 cause.2.1))
+  fault_is_due path named (fault.Syntax place) cause = (path, cause.0, refused path cause.0 named cause.1 cause.2.0 (no_tree cause.0 cause.2.2.0 cause.2.2.1))
+  fault_is_due path named (fault.TooDeep place) cause = (path, cause.0, refused path cause.0 named cause.1 cause.2.0 (too_high cause.0 cause.2.2.0 cause.2.2.1))
+  fault_is_due path named (fault.Reserved place) cause = (path, cause.0, refused path cause.0 named cause.1 cause.2.0 (broken cause.0 place cause.2.2.0 cause.2.2.2 cause.2.2.4))
   fault_is_due path named fault.WriteFailed cause = (path, cause.0, cause.1, record { finds = finds path (Some cause.0) named cause.2; accepted = cause.3 })
   fault_is_due path named fault.OutOfMemory cause = tt
 
@@ -147,15 +163,14 @@ module _ (words : List (List ℕ)) (told : Option Held) where
   pub prints_prefix : (path : List ℕ) (before after : Option (List ℕ)) → command_of words ≡ Some (Maps path) → PrintsAtMost told path before after →
       IsSome told → (output : List ℕ) → IsOutput words told output → TakesPrefix before after output
   prints_prefix path before after named (nothing same) tells output is = (0, omega arith, same ∙ after_nothing before)
-  prints_prefix path before after named (some {bytes = bytes} {tree = tree} held accepted takes) tells output (P.accepted {path = q} {bytes = d} {tree = other} a) =
+  prints_prefix path before after named (some {bytes = bytes} {tree = tree} held accepted only takes) tells output (P.accepted {path = q} {bytes = d} {tree = other} a) =
       let f = finds path (Some bytes) named held in
       let paths = (one_file path q (Some bytes) (Some d) tells f a.finds).0 in
       let contents : bytes ≡ d = one_content path q bytes d tells f a.finds in
-      let here : Accepted d tree = subst (λ bs. Accepted bs tree) contents accepted in
-      let trees : tree ≡ other = one_tree d tree other here.reads a.accepted.reads in
+      let trees : tree ≡ other = sym (only other (subst (λ bs. Reads bs other) (sym contents) a.accepted.reads)) in
       subst (λ text. TakesPrefix before after text)
       (ap (λ p. maps_text p bytes tree) paths ∙ ap (λ bs. maps_text q bs tree) contents ∙ ap (maps_text q d) trees) takes
-  prints_prefix path before after named (some {bytes = bytes} {tree = tree} held accepted takes) tells output (P.none never) =
+  prints_prefix path before after named (some {bytes = bytes} {tree = tree} held accepted only takes) tells output (P.none never) =
       absurd (never path bytes tree (record { finds = finds path (Some bytes) named held; accepted = accepted }))
 
   -- ---- the line
@@ -168,14 +183,26 @@ module _ (words : List (List ℕ)) (told : Option Held) where
   fault_message path named (fault.NotUtf8 n) cause = (
     path,
     cause.0,
-    refused_utf8 path cause.0 named cause.1 cause.2.0 cause.2.1,
+    refused path cause.0 named cause.1 cause.2.0 (not_utf8 cause.0 cause.2.1),
     subst (λ k. IsRefusal path cause.0 (said.NotUtf8 path k)) (sym cause.2.2) (P.not_utf8 cause.2.1),
   )
-  fault_message path named (fault.Syntax n) cause = (
+  fault_message path named (fault.Syntax place) cause = (
     path,
     cause.0,
-    refused_syntax path cause.0 named cause.1 cause.2.0 cause.2.2,
-    subst (λ k. IsRefusal path cause.0 (said.Syntax path k)) (sym cause.2.3.2) (P.syntax {place = cause.2.3.0} cause.2.1 cause.2.3.1),
+    refused path cause.0 named cause.1 cause.2.0 (no_tree cause.0 cause.2.2.0 cause.2.2.1),
+    subst (λ k. IsRefusal path cause.0 (said.Syntax path k)) (sym cause.2.2.2) (P.syntax {at = cause.2.2.0} cause.2.1 cause.2.2.1),
+  )
+  fault_message path named (fault.TooDeep place) cause = (
+    path,
+    cause.0,
+    refused path cause.0 named cause.1 cause.2.0 (too_high cause.0 cause.2.2.0 cause.2.2.1),
+    subst (λ k. IsRefusal path cause.0 (said.TooDeep path k)) (sym cause.2.2.2) (P.too_deep {at = cause.2.2.0} cause.2.1 cause.2.2.1),
+  )
+  fault_message path named (fault.Reserved place) cause = (
+    path,
+    cause.0,
+    refused path cause.0 named cause.1 cause.2.0 (broken cause.0 place cause.2.2.0 cause.2.2.2 cause.2.2.4),
+    P.reserved {tree = cause.2.2.0} cause.2.1 cause.2.2.1 cause.2.2.3 cause.2.2.4,
   )
   fault_message path named fault.WriteFailed cause = refl
   fault_message path named fault.OutOfMemory cause = refl
@@ -193,6 +220,8 @@ module _ (words : List (List ℕ)) (told : Option Held) where
   no_message_is_ok : (message : said.Message) → status_of message ≢ status.Ok
   no_message_is_ok said.Usage e = cc
   no_message_is_ok (said.Syntax path place) e = cc
+  no_message_is_ok (said.TooDeep path place) e = cc
+  no_message_is_ok (said.Reserved path place) e = cc
   no_message_is_ok (said.NotUtf8 path n) e = cc
   no_message_is_ok (said.ReadFailed path) e = cc
   no_message_is_ok said.WriteFailed e = cc
@@ -235,3 +264,14 @@ module _ (words : List (List ℕ)) (told : Option Held) where
       SaysAtMost words told before after
   usage_says_at_most message (inl same) before after takes = record { due = status.Usage; message = message; is = same; taken = takes }
   usage_says_at_most message (inr same) before after takes = record { due = status.Memory; message = message; is = same; taken = takes }
+
+  -- and where memory was wanting for reading them
+  pub memory_says_at_most : (message : said.Message) → (message ≡ said.OutOfMemory) ⊎ (message ≡ said.OutOfMemory) → (before after : Option (List ℕ)) → TakesPrefix before after (said.line message) →
+      SaysAtMost words told before after
+  memory_says_at_most message (inl same) before after takes = record { due = status.Memory; message = message; is = same; taken = takes }
+  memory_says_at_most message (inr same) before after takes = record { due = status.Memory; message = message; is = same; taken = takes }
+
+-- what was read of the words is this command
+pub named_by : (words : List (List ℕ)) (read : Option Command) (command : Command) (path : List ℕ) → option_map request_of read ≡ command_of words → read ≡ Some command →
+    request_of command ≡ Maps path → command_of words ≡ Some (Maps path)
+named_by words read command path reads is names = sym reads ∙ ap (option_map request_of) is ∙ ap Some names

@@ -1,12 +1,5 @@
-pub mod Complete
 pub mod Due
 pub mod LineLemmas
-pub mod Located
-pub mod Numbered
-pub mod Parts
 pub mod PathLemmas
-pub mod Places
-pub mod Sound
-pub mod TokenPaths
-pub mod Tokens
-pub mod Turns
+pub mod Placed
+pub mod Reached

@@ -3,14 +3,16 @@ use Rattle.std.specs.Prelude.{◌≡◌, ℕ, ◌<◌, ◌≤◌, List, length, 
 use Rattle.std.specs.Str.{IsUtf8}
 use Rattle.std.specs.Str.Lossy.{utf8_valid_len}
 use Rattle.js_tree.specs.Plain.{File}
+use Rattle.js_tree.specs.Height.{height_file}
 use Rattle.js_text.specs.Limits.{source_limits}
-use Rattle.js_text.specs.Place.{Place}
-use Rattle.js_text.specs.Position.{position_of}
+use Rattle.js_text.specs.Position.{position}
+use Rattle.js_text.specs.Reads.{Reads, NoTree, TooHigh}
+use Rattle.js_scopes.specs.Accepted.{Accepted}
+use Rattle.js_scopes.specs.Checks.{first_reserved}
 use Rattle.cov_base.specs.Store.{Held}
 use Rattle.cov_base.specs.Sink.{after_more, TakesPrefix}
 use Rattle.cov_tool.specs.Program.{maps_text}
 use Rattle.cov_tool.specs.Line as said
-use Rattle.cov_tool.specs.Reads.{Reads, Accepted, IsTokenStart}
 use Rattle.cov_tool.specs.declared.fault.Fault.{Fault}
 use Rattle.cov_tool.specs.declared.fault.Fault.TheVariants as fault
 use Rattle.cov_tool.specs.declared.status.Status.{Status}
@@ -20,12 +22,26 @@ use Rattle.cov_tool.specs.declared.status.Status.TheVariants as status
 abbrev pub Holds : Option Held → List ℕ → Option (List ℕ) → Type 0
 Holds told path found = IfSome told (λ at. at path ≡ found)
 
+-- the text has no tree but this one
+abbrev pub HasOnly : List ℕ → File → Type 0
+HasOnly text tree = (other : File) → Reads text other → other ≡ tree
+
+-- a tree that breaks an early rule
+abbrev pub IsCheckFault : Fault → File → Type 0
+IsCheckFault (fault.Reserved at) tree = first_reserved tree ≡ Some at
+IsCheckFault fault.OutOfMemory tree = Unit {0}
+IsCheckFault other tree = ⊥
+
 -- bytes that are no source
 abbrev pub IsBytesFault : Fault → List ℕ → Type 0
 IsBytesFault fault.TooLong bytes = source_limits.bytes < length bytes
 IsBytesFault (fault.NotUtf8 at) bytes = (length bytes ≤ source_limits.bytes) × (IsUtf8 bytes → ⊥) × (at ≡ utf8_valid_len bytes)
-IsBytesFault (fault.Syntax at) bytes = (length bytes ≤ source_limits.bytes) × IsUtf8 bytes × ((tree : File) → Reads bytes tree → ⊥)
-    × ((place : Place) × IsTokenStart bytes place × (at ≡ position_of place))
+IsBytesFault (fault.Syntax at) bytes = (length bytes ≤ source_limits.bytes) × IsUtf8 bytes
+    × ((offset : ℕ) × NoTree bytes offset × (at ≡ position bytes offset))
+IsBytesFault (fault.TooDeep at) bytes = (length bytes ≤ source_limits.bytes) × IsUtf8 bytes
+    × ((offset : ℕ) × TooHigh bytes offset source_limits.height × (at ≡ position bytes offset))
+IsBytesFault (fault.Reserved at) bytes = (length bytes ≤ source_limits.bytes) × IsUtf8 bytes
+    × ((tree : File) × Reads bytes tree × HasOnly bytes tree × (height_file tree ≤ source_limits.height) × (first_reserved tree ≡ Some at))
 IsBytesFault fault.OutOfMemory bytes = Unit {0}
 IsBytesFault other bytes = ⊥
 
@@ -51,6 +67,8 @@ message_at fault.ReadFailed path = said.ReadFailed path
 message_at fault.TooLong path = said.TooLong path
 message_at (fault.NotUtf8 at) path = said.NotUtf8 path at
 message_at (fault.Syntax at) path = said.Syntax path at
+message_at (fault.TooDeep at) path = said.TooDeep path at
+message_at (fault.Reserved at) path = said.Reserved path at
 message_at fault.WriteFailed path = said.WriteFailed
 message_at fault.OutOfMemory path = said.OutOfMemory
 
@@ -58,6 +76,8 @@ message_at fault.OutOfMemory path = said.OutOfMemory
 abbrev pub status_of : said.Message → Status
 status_of said.Usage = status.Usage
 status_of (said.Syntax path place) = status.Refused
+status_of (said.TooDeep path place) = status.Refused
+status_of (said.Reserved path place) = status.Refused
 status_of (said.NotUtf8 path at) = status.Refused
 status_of (said.ReadFailed path) = status.ReadFault
 status_of said.WriteFailed = status.WriteFault
@@ -67,13 +87,13 @@ status_of (said.NoFile path) = status.NoFile
 
 -- the text is that of the maps of these bytes
 abbrev pub IsMapsOf : List ℕ → List ℕ → List ℕ → Type 0
-IsMapsOf path bytes text = (tree : File) × Accepted bytes tree × (text ≡ maps_text path bytes tree)
+IsMapsOf path bytes text = (tree : File) × Accepted bytes tree × HasOnly bytes tree × (text ≡ maps_text path bytes tree)
 
 -- nothing was printed, or a prefix of a file's maps
 pub data PrintsAtMost (told : Option Held) (path : List ℕ) (before after : Option (List ℕ)) : Type 0 where
   nothing : after ≡ before → PrintsAtMost told path before after
-  some : {bytes : List ℕ} {tree : File} → Holds told path (Some bytes) → Accepted bytes tree → TakesPrefix before after (maps_text path bytes tree) →
-      PrintsAtMost told path before after
+  some : {bytes : List ℕ} {tree : File} → Holds told path (Some bytes) → Accepted bytes tree → HasOnly bytes tree →
+      TakesPrefix before after (maps_text path bytes tree) → PrintsAtMost told path before after
 
 -- with these faults nothing was printed
 abbrev pub IsBeforePrinting : Fault → Type 0

@@ -1,14 +1,6 @@
 pub mod Cause
-pub mod Class
 pub mod Program
-pub mod Coverage
-pub mod Grammar
 pub mod Hash
 pub mod Line
-pub mod Machine
 pub mod Path
-pub mod Reads
-pub mod Reserved
-pub mod Token
-pub mod View
 pub mod Words

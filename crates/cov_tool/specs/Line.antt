@@ -8,6 +8,8 @@ use Rattle.cov_tool.specs.declared.line.Complaint.TheVariants as complaint
 pub data Message : Type 0 where
   Usage : Message
   Syntax : (path : List ℕ) → (place : Pos) → Message
+  TooDeep : (path : List ℕ) → (place : Pos) → Message
+  Reserved : (path : List ℕ) → (place : Pos) → Message
   NotUtf8 : (path : List ℕ) → (at : ℕ) → Message
   ReadFailed : (path : List ℕ) → Message
   WriteFailed : Message
@@ -19,6 +21,8 @@ pub data Message : Type 0 where
 abbrev pub message_of : Complaint → Message
 message_of complaint.Usage = Usage
 message_of (complaint.Syntax path place) = Syntax path.now place
+message_of (complaint.TooDeep path place) = TooDeep path.now place
+message_of (complaint.Reserved path place) = Reserved path.now place
 message_of (complaint.NotUtf8 path at) = NotUtf8 path.now at
 message_of (complaint.ReadFailed path) = ReadFailed path.now
 message_of complaint.WriteFailed = WriteFailed
@@ -26,10 +30,16 @@ message_of complaint.OutOfMemory = OutOfMemory
 message_of (complaint.TooLong path) = TooLong path.now
 message_of (complaint.NoFile path) = NoFile path.now
 
+-- a file is refused at a place, for this reason
+abbrev pub refused_text : List ℕ → Pos → List ℕ → List ℕ
+refused_text path place why = codes "Refused: " ++ path ++ codes ":" ++ decimal place.line ++ codes ":" ++ decimal place.column ++ codes ": " ++ why
+
 -- a message's bytes, without the line's end
 abbrev pub text : Message → List ℕ
 text Usage = codes "Usage: see cov --help"
-text (Syntax path place) = codes "Refused: " ++ path ++ codes ":" ++ decimal place.line ++ codes ":" ++ decimal place.column ++ codes ": syntax"
+text (Syntax path place) = refused_text path place (codes "syntax")
+text (TooDeep path place) = refused_text path place (codes "too deep")
+text (Reserved path place) = refused_text path place (codes "reserved")
 text (NotUtf8 path at) = codes "Refused: " ++ path ++ codes ": not UTF-8 at byte " ++ decimal at
 text (ReadFailed path) = codes "Read failed: " ++ path
 text WriteFailed = codes "Write failed"
@@ -40,3 +50,7 @@ text (NoFile path) = codes "No file: " ++ path
 -- the line: the message's bytes, ended by LF
 abbrev pub line : Message → List ℕ
 line message = text message ++ 10 ∷ []
+
+-- the same for a refusal at a place
+abbrev pub refused_line : List ℕ → Pos → List ℕ → List ℕ
+refused_line path place why = refused_text path place why ++ 10 ∷ []

@@ -2,43 +2,37 @@
 use Rattle.std.specs.Prelude.{◌≡◌, ℕ, ◌<◌, ◌≤◌, ◌⊎◌, List, [], ◌∷◌, ◌++◌, length, take, Option, None, Some, IfSome, IsSome}
 use Rattle.std.specs.Str.{IsUtf8}
 use Rattle.std.specs.Str.Lossy.{utf8_valid_len}
-use Rattle.js_tree.specs.Plain.{Stmt, Expression, Stmts, no_stmt, more_stmt, File, MakeFile}
-use Rattle.js_tree.specs.declared.place.Loc.{Loc}
+use Rattle.serde_json.specs.Data.{Data}
+use Rattle.serde_json.specs.Written.{compact_text}
+use Rattle.js_tree.specs.declared.place.Pos.{Pos}
+use Rattle.js_tree.specs.Plain.{File}
+use Rattle.js_tree.specs.Height.{height_file}
+use Rattle.js_tree.specs.Constructs.{constructs_file}
 use Rattle.js_text.specs.Limits.{source_limits}
-use Rattle.js_text.specs.Place.{Place}
-use Rattle.js_text.specs.Position.{position_of}
+use Rattle.js_text.specs.Position.{position}
+use Rattle.js_text.specs.Reads.{Reads, NoTree, TooHigh}
+use Rattle.js_scopes.specs.Accepted.{Accepted}
+use Rattle.js_scopes.specs.Checks.{first_reserved}
 use Rattle.cov_base.specs.Store.{Held}
 use Rattle.cov_base.specs.Sink.{after_more, TakesPrefix}
 use Rattle.cov_base.specs.Causes.{Rose}
-use Rattle.cov_tool.specs.Coverage.{zero_coverage_text}
+use Rattle.cov_object.specs.Json.{object_of}
+use Rattle.cov_maps.specs.Zero.{zero_data}
 use Rattle.cov_tool.specs.Hash.{hash_text}
 use Rattle.cov_tool.specs.Line as said
-use Rattle.cov_tool.specs.Reads.{Accepted, IsTokenStart}
 use Rattle.cov_tool.specs.Words.{Maps, command_of}
 use Rattle.cov_tool.specs.declared.status.Status.{Status}
 use Rattle.cov_tool.specs.declared.status.Status.TheVariants as status
 
 -- ---- what is printed
 
--- the place of a statement that is counted: of an expression statement, the only kind that a file has so far, unless it
--- was inserted
-abbrev pub counted_at : Stmt → Option Loc
-counted_at (Expression place e) = place
-counted_at _ = None
-
--- a place before others, where there is one
-abbrev pub place_and : Option Loc → List Loc → List Loc
-place_and None ls = ls
-place_and (Some l) ls = l ∷ ls
-
--- the places of the statements that are counted
-abbrev pub statement_locations : Stmts → List Loc
-statement_locations no_stmt = []
-statement_locations (more_stmt s ss) = place_and (counted_at s) (statement_locations ss)
+-- the JSON of a coverage map with one file alone
+abbrev pub map_text : List ℕ → Data → List ℕ
+map_text path coverage = compact_text (object_of ((path, coverage) ∷ []))
 
 -- the zero FileCoverage of a file and LF
 abbrev pub maps_text : List ℕ → List ℕ → File → List ℕ
-maps_text path bytes (MakeFile body comments) = zero_coverage_text path (hash_text bytes) (statement_locations body) ++ 0x0A ∷ []
+maps_text path bytes tree = map_text path (zero_data path (hash_text bytes) (constructs_file tree)) ++ 0x0A ∷ []
 
 -- ---- when each status is due; `told` is what the store holds, where it tells
 
@@ -129,10 +123,14 @@ PrintsNothing other = Unit {0}
 
 -- ---- the line on standard error
 
--- why a file is refused, and where: it isn't UTF-8 from a byte on, or a token, or what is none, is out of place
+-- why a file is refused, and where: it isn't UTF-8 from a byte on; no token that stands at a place can follow those before
+-- it; those before it begin more levels than a source may have; or a name there is reserved, which is the first of the tree
 pub data IsRefusal (path bytes : List ℕ) : said.Message → Type 0 where
   not_utf8 : (IsUtf8 bytes → ⊥) → IsRefusal path bytes (said.NotUtf8 path (utf8_valid_len bytes))
-  syntax : {place : Place} → IsUtf8 bytes → IsTokenStart bytes place → IsRefusal path bytes (said.Syntax path (position_of place))
+  syntax : {at : ℕ} → IsUtf8 bytes → NoTree bytes at → IsRefusal path bytes (said.Syntax path (position bytes at))
+  too_deep : {at : ℕ} → IsUtf8 bytes → TooHigh bytes at source_limits.height → IsRefusal path bytes (said.TooDeep path (position bytes at))
+  reserved : {tree : File} {place : Pos} → IsUtf8 bytes → Reads bytes tree → height_file tree ≤ source_limits.height →
+      first_reserved tree ≡ Some place → IsRefusal path bytes (said.Reserved path place)
 
 -- what is said with each status, but for Ok, with which nothing is
 abbrev pub IsMessage : Status → List (List ℕ) → Option Held → said.Message → Type 0

@@ -1,10 +1,10 @@
 -- The words of the command line: those after the program's name.
-use Rattle.std.specs.Prelude.{ℕ, Bool, not, ◌&&◌, List, [], ◌∷◌, Option, Some, None, if◌then◌else◌, nat_eq, codes}
+use Rattle.std.specs.Prelude.{ℕ, List, [], ◌∷◌, Option, None, option_map, if◌then◌else◌, nat_eq, codes, string_bytes}
 use Rattle.std.specs.List.{starts_with}
 use Rattle.std.specs.Str.{bytes_eq}
 use Rattle.cov_tool.specs.declared.words.Command.{Command}
 use Rattle.cov_tool.specs.declared.words.Command.TheVariants as command
-use Rattle.cov_tool.specs.Path.{is_source_path}
+use Rattle.cov_tool.specs.Path.{source_path}
 
 -- what may be asked of the program
 pub data Request : Type 0 where
@@ -12,15 +12,15 @@ pub data Request : Type 0 where
 
 -- what a command of the code asks
 abbrev pub request_of : Command → Request
-request_of (command.Maps file) = Maps file.now
+request_of (command.Maps file) = Maps (string_bytes file)
 
--- a FILE: a source path that doesn't begin with `-`
-abbrev pub is_file : List ℕ → Bool
-is_file word = is_source_path word && not (starts_with nat_eq word (codes "-"))
+-- the source path that a FILE names: a word that doesn't begin with `-`
+abbrev pub file_named : List ℕ → Option (List ℕ)
+file_named word = if starts_with nat_eq word (codes "-") then None else source_path word
 
 -- the words after `maps`: one FILE
 abbrev pub maps_of : List (List ℕ) → Option Request
-maps_of (file ∷ []) = if is_file file then Some (Maps file) else None
+maps_of (word ∷ []) = option_map Maps (file_named word)
 maps_of _ = None
 
 -- what the words ask: a command's name, and then its own words; all else has no reading

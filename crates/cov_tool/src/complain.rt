@@ -15,9 +15,10 @@ fn status_of(complaint: &Complaint<'_>) -> Status
 {
     match complaint {
         Complaint::Usage => Status::Usage,
-        Complaint::Syntax { path: _, place: _ } | Complaint::NotUtf8 { path: _, at: _ } => {
-            Status::Refused
-        }
+        Complaint::Syntax { path: _, place: _ }
+        | Complaint::TooDeep { path: _, place: _ }
+        | Complaint::Reserved { path: _, place: _ }
+        | Complaint::NotUtf8 { path: _, at: _ } => Status::Refused,
         Complaint::ReadFailed { path: _ } => Status::ReadFault,
         Complaint::WriteFailed => Status::WriteFault,
         Complaint::OutOfMemory => Status::Memory,

@@ -17,6 +17,10 @@ pub(crate) enum Fault {
     NotUtf8 { at: usize },
     /// The token here, or what is none, is out of place.
     Syntax { at: Pos },
+    /// The tokens before this place begin more levels than a source may have.
+    TooDeep { at: Pos },
+    /// The name here is reserved.
+    Reserved { at: Pos },
     /// The maps couldn't be written.
     WriteFailed,
     /// Want of memory.
@@ -37,6 +41,8 @@ impl Fault {
             Fault::TooLong => Complaint::TooLong { path },
             Fault::NotUtf8 { at } => Complaint::NotUtf8 { path, at },
             Fault::Syntax { at } => Complaint::Syntax { path, place: at },
+            Fault::TooDeep { at } => Complaint::TooDeep { path, place: at },
+            Fault::Reserved { at } => Complaint::Reserved { path, place: at },
             Fault::WriteFailed => Complaint::WriteFailed,
             Fault::OutOfMemory => Complaint::OutOfMemory,
         }

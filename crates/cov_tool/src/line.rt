@@ -1,5 +1,5 @@
 ghost use Rattle.std.specs.Prelude.{◌≡◌, IfOk, string_bytes};
-ghost use Rattle.cov_tool.specs.Line.{line, message_of, OutOfMemory};
+ghost use Rattle.cov_tool.specs.Line.{line, refused_line, message_of, OutOfMemory};
 
 use items::Memory;
 use js_tree::Pos;
@@ -12,6 +12,10 @@ pub enum Complaint<'a> {
     Usage,
     /// The file at this path isn't of the language: the token here, or what is none, is out of place.
     Syntax { path: &'a str, place: Pos },
+    /// The file at this path has too many levels: the tokens before this place begin too many.
+    TooDeep { path: &'a str, place: Pos },
+    /// The file at this path has a reserved name here.
+    Reserved { path: &'a str, place: Pos },
     /// The file at this path isn't UTF-8: the fault begins at this byte, counted from 0.
     NotUtf8 { path: &'a str, at: usize },
     /// The file at this path couldn't be read.
@@ -32,10 +36,9 @@ pub fn line(alloc: Global, complaint: &Complaint<'_>) -> Result<String, Memory>
 {
     match complaint {
         Complaint::Usage => String::from_str(alloc, "Usage: see cov --help\n"),
-        Complaint::Syntax { path, place } => {
-            let Pos { line, column } = place;
-            format!(in alloc; "Refused: {path}:{line}:{column}: syntax\n")
-        }
+        Complaint::Syntax { path, place } => refused_line(alloc, path, *place, "syntax"),
+        Complaint::TooDeep { path, place } => refused_line(alloc, path, *place, "too deep"),
+        Complaint::Reserved { path, place } => refused_line(alloc, path, *place, "reserved"),
         Complaint::NotUtf8 { path, at } => {
             format!(in alloc; "Refused: {path}: not UTF-8 at byte {at}\n")
         }
@@ -45,6 +48,14 @@ pub fn line(alloc: Global, complaint: &Complaint<'_>) -> Result<String, Memory>
         Complaint::TooLong { path } => format!(in alloc; "Limit: {path} bytes\n"),
         Complaint::NoFile { path } => format!(in alloc; "No file: {path}\n"),
     }
+}
+
+/// The line of a refusal at a place of the file at a path.
+fn refused_line(alloc: Global, path: &str, place: Pos, why: &str) -> Result<String, Memory>
+    ensures { IfOk result (λ text. string_bytes text ≡ refused_line path.now place why.now) }
+{
+    let Pos { line, column } = place;
+    format!(in alloc; "Refused: {path}:{line}:{column}: {why}\n")
 }
 
 /// The line of `Complaint::OutOfMemory`. It takes no memory.

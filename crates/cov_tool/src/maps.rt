@@ -1,20 +1,25 @@
-ghost use Rattle.std.specs.Prelude.{◌≡◌, ◌≤◌, length, IfOk, IfErr, OnOk, Some};
+ghost use Rattle.std.specs.Prelude.{◌≡◌, ◌≤◌, length, IfOk, IfErr, OnOk, Some, None};
 ghost use Rattle.std.specs.Str.{IsUtf8};
 ghost use Rattle.js_tree.specs.Tree.{plain_file};
+ghost use Rattle.js_tree.specs.Height.{height_file};
 ghost use Rattle.js_text.specs.Limits.{source_limits};
+ghost use Rattle.js_text.specs.Reads.{Reads};
+ghost use Rattle.js_parser.specs.Refused.{RefusesText};
+ghost use Rattle.js_scopes.specs.Accepted.{Accepted};
+ghost use Rattle.js_scopes.specs.Checks.{first_reserved};
 ghost use Rattle.cov_base.specs.Causes.{Rose};
 ghost use Rattle.cov_base.specs.Sink.{after_more, TakesPrefix};
 ghost use Rattle.cov_tool.specs.Program as spec;
-ghost use Rattle.cov_tool.specs.Cause.{Holds, IsReadingFault, IsBytesFault, IsCause, IsMapsOf, IsBeforePrinting, IsPrintingFault, PrintsAtMost, PrintsWhole};
-ghost use Rattle.cov_tool.specs.Reads.{Reads, Accepted};
+ghost use Rattle.cov_tool.specs.Cause.{Holds, HasOnly, IsReadingFault, IsBytesFault, IsCheckFault, IsCause, IsMapsOf, IsBeforePrinting, IsPrintingFault, PrintsAtMost, PrintsWhole};
 
-use crate::constructs::statement_locations;
-use crate::coverage::zero_text;
 use crate::fault::Fault;
 use crate::hash::hash_of;
-use crate::reader::{Refused, read};
 use cov_base::{Failed, Sink, Store, write_all};
+use cov_maps::{constructs, zero};
+use cov_object::{CoverageMap, write_json};
 use items::Memory;
+use js_parser::{Refusal, Refused, parse};
+use js_scopes::{Checked, ScopeFault, ScopeFaultKind, check};
 use js_text::{Limits, Text, TextFault};
 use js_tree::File;
 use std::alloc::Global;
@@ -50,27 +55,73 @@ fn text_of(alloc: Global, bytes: Vec<u8>) -> Result<Text, Fault>
     }
 }
 
+/// What the reader's refusal of a text is: its place is told by line and column.
+fn fault_of(text: &Text, refused: Refused) -> Fault
+    requires within { length text.now ≤ source_limits.bytes }
+    requires utf8 { IsUtf8 text.now }
+    requires refused { RefusesText refused text.now source_limits.height }
+    ensures { IsBytesFault result text.now }
+{
+    let at = text.position(refused.at);
+    match refused.why {
+        Refusal::Syntax => Fault::Syntax { at },
+        Refusal::TooDeep => Fault::TooDeep { at },
+        Refusal::Memory => Fault::OutOfMemory,
+    }
+}
+
 /// The file that a source text is read to.
 fn file_of(alloc: Global, text: &Text) -> Result<File, Fault>
     requires within { length text.now ≤ source_limits.bytes }
     requires utf8 { IsUtf8 text.now }
     ensures tree { IfOk result (λ file. Reads text.now (plain_file file)) }
+    ensures only { IfOk result (λ file. HasOnly text.now (plain_file file)) }
+    ensures low { IfOk result (λ file. height_file (plain_file file) ≤ source_limits.height) }
     ensures fault { IfErr result (λ why. IsBytesFault why text.now) }
 {
-    match read(alloc, text.as_str()) {
+    match parse(alloc, text, Limits::source()) {
         Ok(file) => Ok(file),
-        Err(Refused::Syntax { at }) => Err(Fault::Syntax { at }),
-        Err(Refused::Memory) => Err(Fault::OutOfMemory),
+        Err(refused) => Err(fault_of(text, refused)),
     }
 }
 
+/// The file, where it breaks no early rule.
+fn checked_of(alloc: Global, file: File) -> Result<Checked, Fault>
+    ensures file { IfOk result (λ checked. checked ≡ file) }
+    ensures unbroken { OnOk result (first_reserved (plain_file file) ≡ None) }
+    ensures fault { IfErr result (λ why. IsCheckFault why (plain_file file)) }
+{
+    match check(alloc, file) {
+        Ok(checked) => Ok(checked),
+        Err((_, ScopeFault { at, kind })) => match kind {
+            ScopeFaultKind::Reserved => Err(Fault::Reserved { at }),
+            ScopeFaultKind::Memory => Err(Fault::OutOfMemory),
+        },
+    }
+}
+
+/// The source that a text is: read, and breaking no early rule.
+fn accepted_of(alloc: Global, text: &Text) -> Result<Checked, Fault>
+    requires within { length text.now ≤ source_limits.bytes }
+    requires utf8 { IsUtf8 text.now }
+    ensures accepted { IfOk result (λ file. Accepted text.now (plain_file file)) }
+    ensures only { IfOk result (λ file. HasOnly text.now (plain_file file)) }
+    ensures fault { IfErr result (λ why. IsBytesFault why text.now) }
+{
+    let file = file_of(alloc, text)?;
+    checked_of(alloc, file)
+}
+
 /// What is printed for a file: its zero FileCoverage and LF.
-fn text_for(alloc: Global, path: &str, text: &Text, file: &File) -> Result<Vec<u8>, Memory>
+fn text_for(alloc: Global, path: &str, text: &Text, file: &Checked) -> Result<Vec<u8>, Memory>
+    requires { Reads text.now (plain_file file.now) }
     ensures { IfOk result (λ printed. printed.items ≡ spec.maps_text path.now text.now (plain_file file.now)) }
 {
-    let locations = statement_locations(alloc, file.body.as_slice())?;
+    let list = constructs(alloc, file)?;
     let hash = hash_of(alloc, text.as_str().as_bytes())?;
-    let mut printed = zero_text(alloc, path, hash.as_str(), locations.as_slice())?;
+    let mut map = CoverageMap::new(alloc);
+    map.insert(zero(alloc, path, hash.as_str(), list.as_slice())?)?;
+    let mut printed = write_json(alloc, &map)?;
     printed.push(b'\n')?;
     Ok(printed)
 }
@@ -81,7 +132,7 @@ fn maps_of(alloc: Global, path: &str, bytes: Vec<u8>) -> Result<Vec<u8>, Fault>
     ensures fault { IfErr result (λ why. IsBytesFault why bytes.items) }
 {
     let text = text_of(alloc, bytes)?;
-    let file = file_of(alloc, &text)?;
+    let file = accepted_of(alloc, &text)?;
     Ok(text_for(alloc, path, &text, &file)?)
 }
 

@@ -51,7 +51,10 @@ pub fn cov<S: Store, O: Sink, E: Sink>(
     ensures one_line { result ≡ Status.Memory
         → SaysAtMost (map string_bytes words.now) (S.held store.old) (E.taken err.old) (E.taken err.new) }
 {
-    let Some(command) = command_of(words) else {
+    let Ok(read) = command_of(alloc, words) else {
+        return complain(alloc, &Complaint::OutOfMemory, err);
+    };
+    let Some(command) = read else {
         return complain(alloc, &Complaint::Usage, err);
     };
     let file = file_of(&command);

@@ -1,9 +1,15 @@
+pub mod Begins
 pub mod Character
 pub mod Cursor
+pub mod Grammar
+pub mod Keyword
+pub mod Level
 pub mod Lex
 pub mod Limits
 pub mod Place
 pub mod Position
 pub mod Punctuator
+pub mod Reads
 pub mod Reserved
 pub mod Token
+pub mod Units

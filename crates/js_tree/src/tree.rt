@@ -1,3 +1,5 @@
+ghost use Rattle.std.specs.Prelude.{◌≡◌};
+
 use crate::{
     AssignmentOperator, BinaryOperator, Comment, Identifier, Loc, LogicalOperator, Name, Spelled,
     UnaryOperator, UpdateOperator, VariableKind,
@@ -6,7 +8,6 @@ use items::{Boxed, Items, Text};
 
 /// An expression.
 #[cycle(tree)]
-#[derive(Drop)]
 pub struct Expr {
     /// Its place, without parentheses round it: none where it was inserted.
     pub loc: Option<Loc>,
@@ -177,7 +178,6 @@ pub enum PatternNode {
 
 /// A statement, a declaration or a directive.
 #[cycle(tree)]
-#[derive(Drop)]
 pub struct Stmt {
     /// Its place, with its `;` where one is written: none where it was inserted.
     pub loc: Option<Loc>,
@@ -298,4 +298,44 @@ pub struct File {
     pub body: Items<Stmt>,
     /// Its comments, in order.
     pub comments: Items<Comment>,
+}
+
+// Written out: what stands on this crate calls these, and doesn't prove the drop of a tree again.
+
+impl Drop for Expr {
+    #[cycle(tree)]
+    fn drop(self) {
+        let Expr { loc: _, node } = self;
+        drop(node);
+    }
+}
+
+impl Expr {
+    /// Its place, and what it is.
+    pub fn into_parts(self) -> (Option<Loc>, ExprNode)
+        ensures loc { result.0 ≡ self.loc }
+        ensures node { result.1 ≡ self.node }
+    {
+        let Expr { loc, node } = self;
+        (loc, node)
+    }
+}
+
+impl Drop for Stmt {
+    #[cycle(tree)]
+    fn drop(self) {
+        let Stmt { loc: _, node } = self;
+        drop(node);
+    }
+}
+
+impl Stmt {
+    /// Its place, and what it is.
+    pub fn into_parts(self) -> (Option<Loc>, StmtNode)
+        ensures loc { result.0 ≡ self.loc }
+        ensures node { result.1 ≡ self.node }
+    {
+        let Stmt { loc, node } = self;
+        (loc, node)
+    }
 }

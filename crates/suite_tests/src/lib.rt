@@ -10,6 +10,12 @@ mod host;
 #[cfg(test)]
 mod maps;
 #[cfg(test)]
+mod names;
+#[cfg(test)]
+mod printed;
+#[cfg(test)]
+mod reader;
+#[cfg(test)]
 mod refusals;
 #[cfg(test)]
 mod shapes;

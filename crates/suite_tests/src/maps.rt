@@ -33,12 +33,58 @@ fn places(alloc: Global, spans: &[Span]) -> Result<String, Memory> {
     Ok(text)
 }
 
-/// The map of `a.js`, whose bytes have this hash and whose statements stand there.
-fn map_of(alloc: Global, hash: &str, spans: &[Span]) -> Result<String, Memory> {
+/// An `if` statement on the first line: where it starts and ends, and where its `else` arm does.
+type Branch = (u32, u32, Option<(u32, u32)>);
+
+/// A part of the first line.
+fn part(alloc: Global, start: u32, end: u32) -> Result<String, Memory> {
+    format!(in alloc;
+        "{{\"end\":{{\"column\":{end},\"line\":1}},\"start\":{{\"column\":{start},\"line\":1}}}}"
+    )
+}
+
+/// The members of `b` for so many branches, fewer than eleven.
+fn branch_counts(alloc: Global, branches: usize) -> Result<String, Memory> {
+    let mut text = String::new(alloc);
+    for id in 0..branches {
+        let comma = if id > 0 { "," } else { "" };
+        text.push_str(format!(in alloc; "{comma}\"{id}\":[0,0]")?.as_str())?;
+    }
+    Ok(text)
+}
+
+/// The members of `branchMap` for these branches, fewer than eleven.
+fn branch_places(alloc: Global, branches: &[Branch]) -> Result<String, Memory> {
+    let mut text = String::new(alloc);
+    for (id, branch) in branches.iter().enumerate() {
+        let (start, end, other) = *branch;
+        let comma = if id > 0 { "," } else { "" };
+        let whole = part(alloc, start, end)?;
+        let arm = match other {
+            Some((start, end)) => part(alloc, start, end)?,
+            None => String::from_str(alloc, "{\"end\":{},\"start\":{}}")?,
+        };
+        let place = format!(in alloc;
+            "{comma}\"{id}\":{{\"loc\":{whole},\"locations\":[{whole},{arm}],\"type\":\"if\"}}"
+        )?;
+        text.push_str(place.as_str())?;
+    }
+    Ok(text)
+}
+
+/// The map of `a.js`, whose bytes have this hash and whose statements and branches stand there.
+fn map_of(
+    alloc: Global,
+    hash: &str,
+    spans: &[Span],
+    branches: &[Branch],
+) -> Result<String, Memory> {
     let counts = counts(alloc, spans.len())?;
     let places = places(alloc, spans)?;
+    let paths = branch_counts(alloc, branches.len())?;
+    let arms = branch_places(alloc, branches)?;
     format!(in alloc;
-        "{{\"a.js\":{{\"b\":{{}},\"branchMap\":{{}},\"f\":{{}},\"fnMap\":{{}},\"hash\":\"{hash}\",\"path\":\"a.js\",\"s\":{{{counts}}},\"statementMap\":{{{places}}}}}}}\n"
+        "{{\"a.js\":{{\"b\":{{{paths}}},\"branchMap\":{{{arms}}},\"f\":{{}},\"fnMap\":{{}},\"hash\":\"{hash}\",\"path\":\"a.js\",\"s\":{{{counts}}},\"statementMap\":{{{places}}}}}}}\n"
     )
 }
 
@@ -68,7 +114,7 @@ fn expect_spans(
     hash: &str,
     spans: &[Span],
 ) -> Result<(), Fail> {
-    let map = map_of(alloc, hash, spans)?;
+    let map = map_of(alloc, hash, spans, &[])?;
     expect_map(rt, alloc, "a.js", text, map.as_str())
 }
 
@@ -234,4 +280,75 @@ fn ids_are_in_the_order_of_their_bytes(rt: HostRuntime) -> Result<(), Fail> {
         "a;a;a;a;a;a;a;a;a;a;a;a;",
         "{\"a.js\":{\"b\":{},\"branchMap\":{},\"f\":{},\"fnMap\":{},\"hash\":\"3f5e4a3eedb52c9bde246dbbbc18e2395e945473\",\"path\":\"a.js\",\"s\":{\"0\":0,\"1\":0,\"10\":0,\"11\":0,\"2\":0,\"3\":0,\"4\":0,\"5\":0,\"6\":0,\"7\":0,\"8\":0,\"9\":0},\"statementMap\":{\"0\":{\"end\":{\"column\":2,\"line\":1},\"start\":{\"column\":0,\"line\":1}},\"1\":{\"end\":{\"column\":4,\"line\":1},\"start\":{\"column\":2,\"line\":1}},\"10\":{\"end\":{\"column\":22,\"line\":1},\"start\":{\"column\":20,\"line\":1}},\"11\":{\"end\":{\"column\":24,\"line\":1},\"start\":{\"column\":22,\"line\":1}},\"2\":{\"end\":{\"column\":6,\"line\":1},\"start\":{\"column\":4,\"line\":1}},\"3\":{\"end\":{\"column\":8,\"line\":1},\"start\":{\"column\":6,\"line\":1}},\"4\":{\"end\":{\"column\":10,\"line\":1},\"start\":{\"column\":8,\"line\":1}},\"5\":{\"end\":{\"column\":12,\"line\":1},\"start\":{\"column\":10,\"line\":1}},\"6\":{\"end\":{\"column\":14,\"line\":1},\"start\":{\"column\":12,\"line\":1}},\"7\":{\"end\":{\"column\":16,\"line\":1},\"start\":{\"column\":14,\"line\":1}},\"8\":{\"end\":{\"column\":18,\"line\":1},\"start\":{\"column\":16,\"line\":1}},\"9\":{\"end\":{\"column\":20,\"line\":1},\"start\":{\"column\":18,\"line\":1}}}}}\n",
     )
+}
+
+#[test]
+fn a_branch_without_its_else_path_has_one_that_stands_nowhere(rt: HostRuntime) -> Result<(), Fail> {
+    expect_map(
+        &rt,
+        rt.alloc(),
+        "a.js",
+        "var x = 0; if (x) print(1);",
+        "{\"a.js\":{\"b\":{\"0\":[0,0]},\"branchMap\":{\"0\":{\"loc\":{\"end\":{\"column\":27,\"line\":1},\"start\":{\"column\":11,\"line\":1}},\"locations\":[{\"end\":{\"column\":27,\"line\":1},\"start\":{\"column\":11,\"line\":1}},{\"end\":{},\"start\":{}}],\"type\":\"if\"}},\"f\":{},\"fnMap\":{},\"hash\":\"464ba896c399c5edbe8d14d994e38a2714c1e3db\",\"path\":\"a.js\",\"s\":{\"0\":0,\"1\":0,\"2\":0},\"statementMap\":{\"0\":{\"end\":{\"column\":9,\"line\":1},\"start\":{\"column\":8,\"line\":1}},\"1\":{\"end\":{\"column\":27,\"line\":1},\"start\":{\"column\":11,\"line\":1}},\"2\":{\"end\":{\"column\":27,\"line\":1},\"start\":{\"column\":18,\"line\":1}}}}}\n",
+    )
+}
+
+#[test]
+fn statements_initializers_and_branches_are_counted(rt: HostRuntime) -> Result<(), Fail> {
+    let alloc = rt.alloc();
+    for (text, hash, spans, branches) in [
+        (
+            "if (a) b; else c;",
+            "034680b109adf207dbb7484675b44a4cc4dab940",
+            [(1, 0, 1, 17), (1, 7, 1, 9), (1, 15, 1, 17)].as_slice(),
+            [(0, 17, Some((15, 17)))].as_slice(),
+        ),
+        (
+            "if (a) if (b) c; else d;",
+            "741d1edc9abdf9bedef061f5d4e8d5b14ff9e1cd",
+            [(1, 0, 1, 24), (1, 7, 1, 24), (1, 14, 1, 16), (1, 22, 1, 24)].as_slice(),
+            [(0, 24, None), (7, 24, Some((22, 24)))].as_slice(),
+        ),
+        (
+            "'s'; {;} while (a) b;",
+            "5d5cc989b825d6521d1456ceebc9c90de40f38c7",
+            [(1, 9, 1, 21), (1, 19, 1, 21)].as_slice(),
+            [].as_slice(),
+        ),
+        (
+            "var a, b = (1), c;",
+            "f0d314d6f8a668f4f91a8f3852060a0c656dfc35",
+            [(1, 12, 1, 13)].as_slice(),
+            [].as_slice(),
+        ),
+    ] {
+        let map = map_of(alloc, hash, spans, branches)?;
+        expect_map(&rt, alloc, "a.js", text, map.as_str())?;
+    }
+    Ok(())
+}
+
+#[test]
+fn a_file_is_named_by_its_normal_form(rt: HostRuntime) -> Result<(), Fail> {
+    let alloc = rt.alloc();
+    let map = map_of(alloc, "da39a3ee5e6b4b0d3255bfef95601890afd80709", &[], &[])?;
+    for word in [
+        "./a.js",
+        "x/../a.js",
+        "x//.././/a.js",
+        "a.js/",
+        "b/c/../../a.js",
+    ] {
+        let source = Source {
+            path: "a.js",
+            bytes: b"",
+        };
+        let answer = Answer {
+            status: Status::Ok,
+            out: map.as_str(),
+            err: "",
+        };
+        expect(&rt, alloc, &["maps", word], source, answer)?;
+    }
+    Ok(())
 }

@@ -6,7 +6,7 @@ use std::alloc::Global;
 use std::process::Abort;
 use std::test::Fail;
 
-fn text_of(alloc: Global, text: &str) -> Result<Text, Fail> {
+pub(crate) fn text_of(alloc: Global, text: &str) -> Result<Text, Fail> {
     let bytes = Vec::from_slice(alloc, text.as_bytes())?;
     Ok(Text::from_bytes(alloc, bytes, Limits::source())?)
 }

@@ -1,9 +1,6 @@
 use Rattle.std.proofs.Common.{rules}
-use Rattle.cov_tool.proofs.LineLemmas.{line-Syntax, line-NotUtf8, line-TooLong}
+use Rattle.cov_tool.proofs.LineLemmas.{line-NotUtf8, line-TooLong}
 use Rattle.cov_tool.proofs.line.line.Goals as goal
-
-pub returns-in-Syntax : goal.returns-in-Syntax
-returns-in-Syntax c = rw (c.in-Syntax.is, line-Syntax c.in-Syntax.path.now c.in-Syntax.place) (search rules)
 
 pub returns-in-NotUtf8 : goal.returns-in-NotUtf8
 returns-in-NotUtf8 c = rw (c.in-NotUtf8.is, line-NotUtf8 c.in-NotUtf8.path.now c.in-NotUtf8.at) (search rules)

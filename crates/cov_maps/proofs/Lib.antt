@@ -1,0 +1,4 @@
+pub mod Data
+pub mod NodePlaces
+pub mod Placed
+pub mod Sample

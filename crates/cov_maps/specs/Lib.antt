@@ -1,0 +1,3 @@
+pub mod Construct
+pub mod Placed
+pub mod Zero

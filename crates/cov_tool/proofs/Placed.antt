@@ -1,0 +1,10 @@
+-- The constructs of a text that was read stand somewhere.
+use Rattle.std.proofs.Common.{◌≡◌, ℕ, List, sym, subst}
+use Rattle.js_tree.specs.Plain.{File}
+use Rattle.js_tree.specs.Constructs.{Construct, constructs_file}
+use Rattle.js_text.specs.Reads.{Reads}
+use Rattle.cov_maps.specs.Placed.{ArePlaced}
+use Rattle.cov_maps.proofs.Placed.{reads_placed}
+
+pub placed : {text : List ℕ} {tree : File} {list : List Construct} → Reads text tree → list ≡ constructs_file tree → ArePlaced list
+placed reads same = subst ArePlaced (sym same) (reads_placed reads)

@@ -1,0 +1,10 @@
+pub mod WordClass
+pub mod Class
+pub mod Machine
+pub mod Floor
+pub mod Part
+pub mod Make
+pub mod View
+pub mod Stack
+pub mod Turn
+pub mod Refused

@@ -1,0 +1,133 @@
+ghost use Rattle.js_lexer.specs.Punctuator.{plain_punctuator};
+ghost use Rattle.js_lexer.specs.Token.{kind_of};
+ghost use Rattle.js_parser.specs.Class.{plain_class};
+ghost use Rattle.js_parser.specs.Machine as machine;
+ghost use Rattle.js_parser.specs.View.{Turns};
+ghost use Rattle.js_parser.specs.View as view;
+
+use crate::frame::{Frame, Mode, Test, Turn, discard};
+use crate::part::{Declared, Pieces};
+use crate::prologue::statement;
+use crate::stack::Stack;
+use crate::want::have_word;
+use crate::word::{WordClass, class_of};
+use crate::{Refusal, make};
+use items::Items;
+use js_lexer::{Punctuator, TokenKind};
+use js_tree::Loc;
+use std::alloc::Global;
+
+/// A word where a statement may begin.
+fn begin_word(
+    alloc: Global,
+    stack: &mut Stack,
+    class: WordClass,
+    word: &str,
+    kind: TokenKind<'_>,
+    loc: Loc,
+) -> Result<Turn, Refusal>
+    ensures { Turns result (view.frames stack.new) (machine.begin_word (plain_class class) word.now loc (view.frames stack.old)) (kind_of kind.entry) loc 0 }
+{
+    match class {
+        WordClass::Var => Ok(Turn::To(Mode::WantName(
+            loc,
+            Declared {
+                items: Items::new(alloc),
+                height: 0,
+            },
+        ))),
+        WordClass::If => Ok(Turn::To(Mode::WantOpen(Test::OfIf, loc))),
+        WordClass::While => Ok(Turn::To(Mode::WantOpen(Test::OfWhile, loc))),
+        class => {
+            stack.push(Frame::InExpression)?;
+            have_word(alloc, stack, class, word, kind, loc)
+        }
+    }
+}
+
+/// A `}` where a statement may begin.
+fn close_block(stack: &mut Stack, kind: TokenKind<'_>, loc: Loc) -> Result<Turn, Refusal>
+    ensures { Turns result (view.frames stack.new) (machine.close_block (view.frames stack.old) loc) (kind_of kind.entry) loc 0 }
+{
+    match stack.pop() {
+        Some(Frame::InBlock(opening, statements)) => Ok(Turn::To(Mode::After(make::block(
+            opening, statements, loc,
+        )?))),
+        Some(frame) => {
+            discard(frame);
+            Err(Refusal::Syntax)
+        }
+        None => Err(Refusal::Syntax),
+    }
+}
+
+/// The end where a statement may begin.
+fn close_file(stack: &mut Stack, kind: TokenKind<'_>, loc: Loc) -> Result<Turn, Refusal>
+    ensures { Turns result (view.frames stack.new) (machine.close_file (view.frames stack.old)) (kind_of kind.entry) loc 0 }
+{
+    match stack.pop() {
+        Some(Frame::InBody(statements)) => Ok(Turn::To(Mode::Finished(statements))),
+        Some(frame) => {
+            discard(frame);
+            Err(Refusal::Syntax)
+        }
+        None => Err(Refusal::Syntax),
+    }
+}
+
+/// A punctuator where a statement may begin.
+fn begin_punctuator(
+    alloc: Global,
+    stack: &mut Stack,
+    punctuator: Punctuator,
+    kind: TokenKind<'_>,
+    loc: Loc,
+) -> Result<Turn, Refusal>
+    ensures { Turns result (view.frames stack.new) (machine.begin_punctuator (plain_punctuator punctuator) loc (view.frames stack.old)) (kind_of kind.entry) loc 0 }
+{
+    match punctuator {
+        Punctuator::OpenBrace => {
+            stack.push(Frame::InBlock(
+                loc,
+                Pieces {
+                    items: Items::new(alloc),
+                    height: 0,
+                    directives: true,
+                },
+            ))?;
+            Ok(Turn::To(Mode::Begin))
+        }
+        Punctuator::CloseBrace => close_block(stack, kind, loc),
+        Punctuator::Semicolon => Ok(Turn::To(Mode::After(make::empty(loc)))),
+        Punctuator::OpenParenthesis => {
+            stack.push(Frame::InExpression)?;
+            stack.push(Frame::InParentheses(loc))?;
+            Ok(Turn::To(Mode::Want))
+        }
+        _ => Err(Refusal::Syntax),
+    }
+}
+
+/// A token where a statement may begin.
+pub(crate) fn begin(
+    alloc: Global,
+    stack: &mut Stack,
+    kind: TokenKind<'_>,
+    loc: Loc,
+) -> Result<Turn, Refusal>
+    ensures { Turns result (view.frames stack.new) (machine.begin (kind_of kind.entry) loc (view.frames stack.old)) (kind_of kind.entry) loc 0 }
+{
+    match kind {
+        TokenKind::Word(word) => begin_word(alloc, stack, class_of(word), word, kind, loc),
+        TokenKind::Numeral(digits) => {
+            stack.push(Frame::InExpression)?;
+            Ok(Turn::To(Mode::Have(make::number(alloc, digits, loc)?)))
+        }
+        TokenKind::StringLiteral(spelling) => {
+            stack.push(Frame::InExpression)?;
+            Ok(Turn::To(Mode::Have(make::string(alloc, spelling, loc)?)))
+        }
+        TokenKind::Punctuator(punctuator) => begin_punctuator(alloc, stack, punctuator, kind, loc),
+        TokenKind::End => close_file(stack, kind, loc),
+    }
+}

@@ -1,0 +1,26 @@
+//! The reader of the grammar: from a source text to its tree.
+#![tactic(auto)]
+
+mod after;
+mod begin;
+mod close;
+mod declare;
+mod frame;
+mod have;
+mod join;
+mod level;
+mod make;
+mod need;
+mod part;
+mod place;
+mod prologue;
+mod reader;
+mod refused;
+mod stack;
+mod turn;
+mod units;
+mod want;
+mod word;
+
+pub use reader::parse;
+pub use refused::{Refusal, Refused};

@@ -1,0 +1,78 @@
+ghost use Rattle.std.specs.Prelude.{◌≡◌, false, IfOk, IfErr, OnOk, OnErr};
+ghost use Rattle.js_tree.specs.Plain as P;
+ghost use Rattle.js_tree.specs.Tree.{plain_expr};
+ghost use Rattle.js_parser.specs.Machine as machine;
+ghost use Rattle.js_parser.specs.Make.{MakesPiece};
+ghost use Rattle.js_parser.specs.View as view;
+
+use crate::frame::Frame;
+use crate::make;
+use crate::part::{Part, Piece};
+use crate::stack::Stack;
+use items::Memory;
+use js_tree::{Expr, ExprNode, Loc, Spelled};
+use std::alloc::Global;
+
+/// Whether each statement so far in the innermost body is a directive, and it is the file's.
+pub(crate) fn in_prologue(stack: &mut Stack) -> Result<bool, Memory>
+    ensures value { IfOk result (λ found. found ≡ machine.in_prologue (view.frames stack.old)) }
+    ensures same { OnOk result (stack.new ≡ stack.old) }
+{
+    match stack.pop() {
+        Some(Frame::InBody(statements)) => {
+            let found = statements.directives;
+            stack.push(Frame::InBody(statements))?;
+            Ok(found)
+        }
+        Some(frame) => {
+            stack.push(frame)?;
+            Ok(false)
+        }
+        None => Ok(false),
+    }
+}
+
+/// The string that an expression is, or else the expression.
+#[tactic(auto, using(js_tree::proofs::Equations::tree_rules))]
+fn into_string(expression: Expr) -> Result<Spelled, Expr>
+    ensures string { IfOk result (λ string. plain_expr expression ≡ P.StringLiteral expression.loc string) }
+    ensures same { IfErr result (λ other. other ≡ expression) }
+    ensures other { OnErr result (machine.is_string (plain_expr expression) ≡ false) }
+{
+    let (loc, node) = expression.into_parts();
+    match node {
+        ExprNode::StringLiteral(string) => Ok(string),
+        node => Err(Expr { loc, node }),
+    }
+}
+
+/// The statement that an expression and its `;` are.
+#[tactic(auto, using(crate::proofs::Directives::no_directive))]
+pub(crate) fn statement(
+    alloc: Global,
+    prologue: bool,
+    part: Part,
+    loc: Loc,
+) -> Result<Piece, Memory>
+    ensures { MakesPiece result (machine.statement_of prologue (plain_expr part.tree) loc) loc }
+{
+    if !prologue {
+        return make::expression(alloc, part, loc);
+    }
+    let Part {
+        tree,
+        loc: place,
+        height,
+    } = part;
+    match into_string(tree) {
+        Ok(string) => Ok(make::directive(string, loc)),
+        Err(tree) => {
+            let part = Part {
+                tree,
+                loc: place,
+                height,
+            };
+            make::expression(alloc, part, loc)
+        }
+    }
+}

@@ -1,0 +1,108 @@
+ghost use Rattle.std.specs.Prelude.{IfOk};
+ghost use Rattle.js_lexer.specs.Punctuator.{plain_punctuator};
+ghost use Rattle.js_lexer.specs.Token.{kind_of};
+ghost use Rattle.js_parser.specs.Class.{plain_class};
+ghost use Rattle.js_parser.specs.Machine as machine;
+ghost use Rattle.js_parser.specs.View.{Turns, IsOperand};
+ghost use Rattle.js_parser.specs.View as view;
+
+use crate::frame::{Frame, Mode, Turn, discard};
+use crate::part::Part;
+use crate::stack::Stack;
+use crate::word::{WordClass, class_of};
+use crate::{Refusal, make};
+use items::Memory;
+use js_lexer::{Punctuator, TokenKind};
+use js_tree::Loc;
+use std::alloc::Global;
+
+/// The operand that a word is, if it is one.
+fn operand(alloc: Global, class: WordClass, word: &str, loc: Loc) -> Result<Option<Part>, Memory>
+    ensures { IfOk result (λ found. IsOperand found (machine.word_operand (plain_class class) word.now loc) loc) }
+{
+    match class {
+        WordClass::Null => Ok(Some(make::null(loc))),
+        WordClass::True => Ok(Some(make::boolean(true, loc))),
+        WordClass::False => Ok(Some(make::boolean(false, loc))),
+        WordClass::Name => Ok(Some(make::reference(alloc, word, loc)?)),
+        _ => Ok(None),
+    }
+}
+
+/// A word where an operand is due.
+pub(crate) fn have_word(
+    alloc: Global,
+    stack: &Stack,
+    class: WordClass,
+    word: &str,
+    kind: TokenKind<'_>,
+    loc: Loc,
+) -> Result<Turn, Refusal>
+    ensures { Turns result (view.frames stack.now) (machine.have_if (machine.word_operand (plain_class class) word.now loc) loc (view.frames stack.now)) (kind_of kind.entry) loc 0 }
+{
+    match operand(alloc, class, word, loc)? {
+        Some(part) => Ok(Turn::To(Mode::Have(part))),
+        None => Err(Refusal::Syntax),
+    }
+}
+
+/// A `)` where an argument is due.
+fn close_call(
+    alloc: Global,
+    stack: &mut Stack,
+    kind: TokenKind<'_>,
+    loc: Loc,
+) -> Result<Turn, Refusal>
+    ensures { Turns result (view.frames stack.new) (machine.close_call (view.frames stack.old) loc) (kind_of kind.entry) loc 0 }
+{
+    match stack.pop() {
+        Some(Frame::InCall(callee, arguments)) => Ok(Turn::To(Mode::Have(make::call(
+            alloc, callee, arguments, loc,
+        )?))),
+        Some(frame) => {
+            discard(frame);
+            Err(Refusal::Syntax)
+        }
+        None => Err(Refusal::Syntax),
+    }
+}
+
+/// A punctuator where an operand is due.
+fn want_punctuator(
+    alloc: Global,
+    stack: &mut Stack,
+    punctuator: Punctuator,
+    kind: TokenKind<'_>,
+    loc: Loc,
+) -> Result<Turn, Refusal>
+    ensures { Turns result (view.frames stack.new) (machine.want_punctuator (plain_punctuator punctuator) loc (view.frames stack.old)) (kind_of kind.entry) loc 0 }
+{
+    match punctuator {
+        Punctuator::OpenParenthesis => {
+            stack.push(Frame::InParentheses(loc))?;
+            Ok(Turn::To(Mode::Want))
+        }
+        Punctuator::CloseParenthesis => close_call(alloc, stack, kind, loc),
+        _ => Err(Refusal::Syntax),
+    }
+}
+
+/// A token where an operand is due.
+pub(crate) fn want(
+    alloc: Global,
+    stack: &mut Stack,
+    kind: TokenKind<'_>,
+    loc: Loc,
+) -> Result<Turn, Refusal>
+    ensures { Turns result (view.frames stack.new) (machine.want (kind_of kind.entry) loc (view.frames stack.old)) (kind_of kind.entry) loc 0 }
+{
+    match kind {
+        TokenKind::Word(word) => have_word(alloc, stack, class_of(word), word, kind, loc),
+        TokenKind::Numeral(digits) => Ok(Turn::To(Mode::Have(make::number(alloc, digits, loc)?))),
+        TokenKind::StringLiteral(spelling) => Ok(Turn::To(Mode::Have(make::string(
+            alloc, spelling, loc,
+        )?))),
+        TokenKind::Punctuator(punctuator) => want_punctuator(alloc, stack, punctuator, kind, loc),
+        TokenKind::End => Err(Refusal::Syntax),
+    }
+}

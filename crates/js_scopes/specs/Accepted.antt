@@ -1,0 +1,16 @@
+-- Which sources the suite accepts, and as which tree.
+use Rattle.std.specs.Prelude.{◌≡◌, ℕ, ◌≤◌, List, None, length}
+use Rattle.std.specs.Str.{IsUtf8}
+use Rattle.js_text.specs.Limits.{source_limits}
+use Rattle.js_text.specs.Reads.{Reads}
+use Rattle.js_tree.specs.Plain.{File}
+use Rattle.js_tree.specs.Height.{height_file}
+use Rattle.js_scopes.specs.Checks.{first_reserved}
+
+-- the bytes are a source of this tree: UTF-8 within the limits, read to the tree, which breaks no early rule
+pub record Accepted (bytes : List ℕ) (tree : File) : Type 0 where
+  pub within : length bytes ≤ source_limits.bytes
+  pub utf8 : IsUtf8 bytes
+  pub reads : Reads bytes tree
+  pub low : height_file tree ≤ source_limits.height
+  pub unbroken : first_reserved tree ≡ None

@@ -1,0 +1,5 @@
+pub mod Accepted
+pub mod Checks
+pub mod Mentions
+pub mod Names
+pub mod Required

@@ -1,0 +1,56 @@
+-- Which tree a text has, and why it has none: its tokens are a sentence for the tree, or come to where none can follow.
+use Rattle.std.specs.Prelude.{◌≡◌, ℕ, ◌<◌, List, [], ◌∷◌, ◌++◌, Some}
+use Rattle.std.specs.Str.{chars}
+use Rattle.js_tree.specs.Plain.{File}
+use Rattle.js_tree.specs.Height.{height_file}
+use Rattle.js_text.specs.Place.{Place}
+use Rattle.js_text.specs.Token.{Goal, Div, Kind, Token}
+use Rattle.js_text.specs.Lex.{next_token, token_place, offset_of}
+use Rattle.js_text.specs.Grammar.{Sentence, Dead}
+use Rattle.js_text.specs.Begins.{BeginsMore}
+
+-- the goal for which a token of this kind is lexed: so far each is the same for Div and for RegExp
+abbrev pub goal_of : Kind → Goal
+goal_of kind = Div
+
+-- from one place to another these tokens stand, each lexed for the goal of its kind
+pub data Lexes : Place → List Token → Place → Type 0 where
+  no_token : {place : Place} → Lexes place [] place
+  one_more : {place between end : Place} {token : Token} {tokens : List Token} →
+      next_token (goal_of token.kind) place ≡ Some (token, between) → Lexes between tokens end →
+      Lexes place (token ∷ tokens) end
+
+-- the place before a text's first character
+abbrev pub start_of : List ℕ → Place
+start_of text = record { before = []; after = chars text }
+
+-- the text of these bytes has this tree
+pub record Reads (text : List ℕ) (tree : File) : Type 0 where
+  pub tokens : List Token
+  pub end : Place
+  pub lexed : Lexes (start_of text) tokens end
+  pub sentence : Sentence tree tokens
+
+-- after the tokens that lead to a place of the text, so many bytes stand before the next token, or what is none, or the end
+pub record Reaches (text : List ℕ) (at : ℕ) : Type 0 where
+  pub tokens : List Token
+  pub place : Place
+  pub lexed : Lexes (start_of text) tokens place
+  pub there : at ≡ offset_of (token_place Div place)
+
+-- no token that stands at this place can follow these: no sentence begins with them and it
+abbrev pub Stuck : List Token → Place → Type 0
+Stuck tokens place = (token : Token) (after : Place) → next_token (goal_of token.kind) place ≡ Some (token, after) →
+    Dead (tokens ++ token ∷ [])
+
+-- the text has no tree, since no token that stands there goes on
+pub record NoTree (text : List ℕ) (at : ℕ) : Type 0 where
+  pub reached : Reaches text at
+  pub stuck : Stuck reached.tokens reached.place
+  pub none : (tree : File) → Reads text tree → ⊥
+
+-- its tree, if it has one, is higher than the limit, since the tokens before begin more levels
+pub record TooHigh (text : List ℕ) (at : ℕ) (limit : ℕ) : Type 0 where
+  pub reached : Reaches text at
+  pub begun : BeginsMore limit reached.tokens
+  pub higher : (tree : File) → Reads text tree → limit < height_file tree
