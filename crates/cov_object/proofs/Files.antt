@@ -1,7 +1,5 @@
 -- The files of a map that has each under its path.
-use Rattle.serde_json.specs.Data.{Data}
-use Rattle.cov_object.specs.Json.{file_data}
-use Rattle.std.proofs.Common.{◌≡◌, ℕ, Bor, map, List, [], ◌∷◌, Option, Some, cond, is_eq, refl, sym, ap, ◌∙◌, String, string_bytes}
+use Rattle.std.proofs.Common.{◌≡◌, ℕ, map, List, [], ◌∷◌, Option, Some, cond, is_eq, refl, sym, ap, ◌∙◌, String, string_bytes}
 use Rattle.std.specs.Ordering.{nat_cmp, match_ordering}
 use Rattle.std.specs.declared.cmp.Ordering.{Ordering}
 use Rattle.std.specs.declared.cmp.Ordering.TheVariants.{Less, Equal, Greater}
@@ -57,11 +55,6 @@ lookup-found path [] all = refl
 lookup-found path (e ∷ es) all =
     cond-found (slice_cmp nat_cmp path (string_bytes e.0)) e.1 _ _ (lookup-found path es all.1)
     ∙ ap (λ ys. match_ordering (slice_cmp nat_cmp path ys) (found path (values_of es)) (Some e.1) (found path (values_of es))) all.0
-
--- lent files beside their data, as the files themselves
-pub entries-lent : (xs : List (Bor FileCoverage)) → map {B = List ℕ × Data} (λ file. (string_bytes file.now.path, file_data file.now)) xs ≡ map {B = List ℕ × Data} (λ file. (string_bytes file.path, file_data file)) (map (λ x. x.now) xs)
-entries-lent [] = refl
-entries-lent (x ∷ xs) = ap (λ (rest : List (List ℕ × Data)). (string_bytes x.now.path, file_data x.now) ∷ rest) (entries-lent xs)
 
 below : (k : String Global) (path : List ℕ) (es : List Entry) → string_bytes k ≡ path → AllByRecursion (λ y. string_cmp k y ≡ Less) (keys_of es) → AreUnderTheirPaths es →
     AllByRecursion (λ y. slice_cmp nat_cmp path y ≡ Less) (map (λ file. string_bytes file.path) (values_of es))

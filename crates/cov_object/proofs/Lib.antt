@@ -1,4 +1,6 @@
 pub mod Files
-pub mod Numbered
+pub mod OrderLemmas
+pub mod PieceLemmas
 pub mod Plain
 pub mod Sample
+pub mod WriteLemmas

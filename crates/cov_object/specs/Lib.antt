@@ -1,2 +1,5 @@
+pub mod Counted
 pub mod Files
 pub mod Json
+pub mod Order
+pub mod Piece

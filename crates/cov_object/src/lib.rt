@@ -1,11 +1,14 @@
 //! The coverage of a program's files, and its JSON.
 #![tactic(auto)]
 
+mod counted;
 mod file;
 mod list;
 mod location;
 mod map;
-mod members;
+mod numbered;
+mod order;
+mod piece;
 mod value;
 mod write;
 

@@ -1,4 +1,4 @@
-ghost use Rattle.std.specs.Prelude.{◌≡◌, map, IfOk};
+ghost use Rattle.std.specs.Prelude.{◌≡◌, IfOk};
 ghost use Rattle.serde_json.specs.View.{view};
 ghost use Rattle.cov_object.specs.Json as spec;
 
@@ -28,18 +28,6 @@ pub(crate) fn location_value(alloc: Global, location: Location) -> Result<Value,
     let mut members = Map::new(alloc);
     put(&mut members, alloc, "start", start)?;
     put(&mut members, alloc, "end", end)?;
-    Ok(Value::Object(members))
-}
-
-// An object of the values, each under its number in decimal, from 0.
-pub(crate) fn numbered_value(alloc: Global, values: Vec<Value>) -> Result<Value, Memory>
-    ensures { IfOk result (λ value. view value ≡ spec.numbered (map view values.items)) }
-{
-    let mut members = Map::new(alloc);
-    for (id, value) in values.into_iter().enumerate() {
-        let key = format!(in alloc; "{id}")?;
-        put(&mut members, alloc, key.as_str(), value)?;
-    }
     Ok(Value::Object(members))
 }
 

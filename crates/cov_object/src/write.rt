@@ -1,11 +1,13 @@
-ghost use Rattle.std.specs.Prelude.{◌≡◌, IfOk};
-ghost use Rattle.serde_json.specs.View.{view};
+ghost use Rattle.std.specs.Prelude.{◌≡◌, ◌++◌, IfOk, OnOk};
+ghost use Rattle.serde_json.specs.Written.{compact_text};
 ghost use Rattle.cov_object.specs.Json as spec;
+ghost use Rattle.cov_object.specs.Piece.{hash_text};
 
+use crate::file::FileCoverage;
 use crate::map::CoverageMap;
-use crate::members::file_value;
+use crate::numbered::push_counted;
+use crate::piece::{push_key, push_text};
 use items::Memory;
-use serde_json::{Map, Value, put};
 use std::alloc::Global;
 
 /// The JSON of a coverage map, with no space: an object from each file's path to its coverage, the
@@ -13,21 +15,39 @@ use std::alloc::Global;
 pub fn write_json(alloc: Global, map: &CoverageMap) -> Result<Vec<u8>, Memory>
     ensures { IfOk result (λ text. text.items ≡ spec.json_text map.now) }
 {
-    map_value(alloc, map)?.to_vec(alloc)
+    let mut out = Vec::new(alloc);
+    out.push(b'{')?;
+    let mut later = false;
+    for file in map.files() {
+        push_key(alloc, &mut out, later, file.path.as_str())?;
+        push_file(alloc, &mut out, file)?;
+        later = true;
+    }
+    out.push(b'}')?;
+    Ok(out)
 }
 
-// The value that the JSON stands for.
-fn map_value(alloc: Global, map: &CoverageMap) -> Result<Value, Memory>
-    ensures { IfOk result (λ value. view value ≡ spec.files_data map.now) }
+// Writes a file's coverage at the end of `out`. It is written member by member, since a tree of
+// the whole would take many times the memory of its text.
+fn push_file(alloc: Global, out: &mut Vec<u8>, file: &FileCoverage) -> Result<(), Memory>
+    ensures { OnOk result (out.new.items ≡ out.old.items ++ compact_text (spec.file_data file.now)) }
 {
-    let mut members = Map::new(alloc);
-    for file in map.files() {
-        put(
-            &mut members,
-            alloc,
-            file.path.as_str(),
-            file_value(alloc, file)?,
-        )?;
+    out.push(b'{')?;
+    push_counted(alloc, out, false, "b", "branchMap", &file.branches)?;
+    push_counted(alloc, out, true, "f", "fnMap", &file.functions)?;
+    push_hash(alloc, out, &file.hash)?;
+    push_text(alloc, out, "path", file.path.as_str())?;
+    push_counted(alloc, out, true, "s", "statementMap", &file.statements)?;
+    out.push(b'}')?;
+    Ok(())
+}
+
+// Writes the member `hash` after another, where there is a hash.
+fn push_hash(alloc: Global, out: &mut Vec<u8>, hash: &Option<String>) -> Result<(), Memory>
+    ensures { OnOk result (out.new.items ≡ out.old.items ++ hash_text hash.now) }
+{
+    match hash {
+        Some(hash) => push_text(alloc, out, "hash", hash.as_str()),
+        None => Ok(()),
     }
-    Ok(Value::Object(members))
 }

@@ -1,10 +1,23 @@
-use Rattle.std.proofs.Common.{ap, ◌∙◌}
-use Rattle.std.proofs.lemmas.Result.{IfOk-weaker}
-use Rattle.serde_json.specs.Written.{has_float, compact_text}
-use Rattle.cov_object.proofs.Plain.{files-plain}
+use Rattle.std.proofs.Common.{◌≡◌, ◌++◌, ◌∷◌, false, map, sym, ap, ◌∙◌}
+use Rattle.std.proofs.lemmas.Iterator.Consumers.{YieldsList-from_rest, YieldsList-end}
+use Rattle.cov_object.specs.Piece.{key_text}
+use Rattle.cov_object.proofs.WriteLemmas.{begun, is_later, now_more, one_more, is_later-more, all_written}
 use Rattle.cov_object.proofs.write.write_json.Goals as goal
+
+pub loop-file-preserved : goal.loop-file-preserved
+loop-file-preserved c =
+    let so_far = c.loop-file.invariant in
+    let files = map (λ file. file.now) c.loop-file.yielded in
+    let file = c.in-Some.file.now in
+    let more = now_more c.loop-file.yielded c.in-Some.file in
+    record {
+      text = one_more files file c.loop-file.later _ _ _ so_far.text so_far.comma (c.in_ok-push_key.ensures ∙ ap (λ path. c.loop-file.out.items ++ key_text c.loop-file.later path) c.as_str.ensures.value) c.in_ok-push_file.ensures ∙ ap (λ all. 123 ∷ begun false all) (sym more);
+      comma = sym (ap (is_later false) more ∙ is_later-more false files file);
+    }
 
 pub returns : goal.returns
 returns c =
-    let built = c.in_ok-map_value.ensures in
-    IfOk-weaker c.to_vec.result _ _ (λ text h. h (ap has_float built ∙ files-plain c.args.map.now) ∙ ap compact_text built) c.to_vec.ensures.text
+    let files = c.args.map.now in
+    let all : map (λ file. file.now) c.loop-file.yielded ≡ files =
+    (YieldsList-end (YieldsList-from_rest {s = c.into_iter-file-iterator.result} files cc) c.loop-file.yielded c.loop-file.file-iterator c.loop-file.yielded_by c.next.result c.next.new.self c.in-None.is c.next.ensures.steps).0 in
+    all_written files _ _ c.files-file-items.ensures.order (c.loop-file.invariant.text ∙ ap (λ some. 123 ∷ begun false some) all) c.in_ok-push-2.ensures.items

@@ -1,7 +1,0 @@
-use Rattle.std.proofs.Common.{◌≡◌, map, take}
-use Rattle.serde_json.specs.View.{view}
-use Rattle.cov_object.specs.Json.{location_data}
-use Rattle.cov_object.proofs.list.statement_locations.Given as goal
-
-abbrev pub invariant-loop-statement : goal.invariant-loop-statement
-invariant-loop-statement l = map view l.values.items ≡ map (λ statement. location_data statement.location) (take l.statement-index l.statements)
