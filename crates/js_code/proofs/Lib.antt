@@ -1,0 +1,4 @@
+pub mod Later
+pub mod Places
+pub mod Pushed
+pub mod StatementLists

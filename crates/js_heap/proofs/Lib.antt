@@ -1,0 +1,5 @@
+pub mod Lists
+pub mod ObjectLemmas
+pub mod Older
+pub mod Outcomes
+pub mod Chains

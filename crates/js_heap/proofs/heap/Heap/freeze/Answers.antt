@@ -1,0 +1,17 @@
+use Rattle.std.proofs.Common.{true, refl, ap}
+use Rattle.js_value.specs.State as state
+use Rattle.js_value.specs.Objects.{no_object}
+use Rattle.js_heap.specs.Object.{plain_object}
+use Rattle.js_heap.specs.Heap.{store_of}
+use Rattle.js_heap.proofs.Lists.{map-set_by}
+use Rattle.js_heap.proofs.Older.{prototypes-set}
+use Rattle.js_heap.proofs.heap.Heap.freeze.Goals as goal
+
+pub invariant_of-self-clause-prototypes : goal.invariant_of-self-clause-prototypes
+invariant_of-self-clause-prototypes c =
+    prototypes-set c.args.self.now.objects.items _ _ _ _ c.index.ensures c.requires c.index_mut-record.ensures.value refl c.args.self.now.prototypes
+
+pub returns : goal.returns
+returns c =
+    ap (λ os. record (store_of c.args.self.now) { objects = os })
+    (map-set_by plain_object (λ (o : state.ObjectRecord). record o { frozen = true }) c.args.self.now.objects.items _ _ _ _ no_object c.index.ensures c.requires c.index_mut-record.ensures.value refl)

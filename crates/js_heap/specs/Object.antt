@@ -1,0 +1,51 @@
+-- What the definition of a program's store sees in an object of the heap.
+use Rattle.std.specs.Prelude.{ℕ, suc, ◌≤◌, List, map, Option, None, Some, option_map, slice_index_or}
+use Rattle.js_value.specs.declared.value.Value.{Value}
+use Rattle.js_value.specs.State as state
+use Rattle.js_value.specs.Objects.{no_object, with_property}
+use Rattle.js_heap.specs.declared.object.ObjectKind.{ObjectKind}
+use Rattle.js_heap.specs.declared.object.ObjectKind.TheVariants.{Plain, Array, Error, RegExp, BuiltIn, Written}
+use Rattle.js_heap.specs.declared.object.Flags.{Flags}
+use Rattle.js_heap.specs.declared.object.Property.{Property}
+use Rattle.js_heap.specs.declared.object.ObjectRecord.{ObjectRecord}
+
+abbrev pub plain_kind : ObjectKind → state.ObjectKind
+plain_kind Plain = state.Plain
+plain_kind Array = state.Array
+plain_kind Error = state.Error
+plain_kind RegExp = state.RegExp
+plain_kind (BuiltIn function) = state.BuiltIn function
+plain_kind (Written code environment) = state.Written code environment.index
+
+-- the property of this key
+abbrev pub property_with : List ℕ → Value → Flags → state.Property
+property_with key v flags = record {
+  key = key;
+  value = v;
+  enumerable = flags.enumerable;
+  writable = flags.writable;
+}
+
+abbrev pub plain_property : Property → state.Property
+plain_property property = property_with property.key property.value property.flags
+
+abbrev pub plain_object : ObjectRecord → state.ObjectRecord
+plain_object object = record {
+  kind = plain_kind object.kind;
+  prototype = option_map (λ prototype. prototype.index) object.prototype;
+  frozen = object.frozen;
+  properties = map plain_property object.properties.items;
+}
+
+-- the object with a property defined
+abbrev pub with_defined : state.Property → state.ObjectRecord → state.ObjectRecord
+with_defined property object = record object { properties = with_property property object.properties }
+
+-- as many as there can be in a chain that begins with this one, where each is older than the one before
+abbrev pub reach_of : Option ℕ → ℕ
+reach_of None = 0
+reach_of (Some n) = suc n
+
+-- each prototype is older than what inherits from it
+abbrev pub PrototypesAreOlder : List state.ObjectRecord → Type 0
+PrototypesAreOlder objects = (o : ℕ) → reach_of (slice_index_or objects o no_object).prototype ≤ o

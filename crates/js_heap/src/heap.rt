@@ -1,0 +1,282 @@
+ghost use Rattle.std.specs.Prelude.{map};
+ghost use Rattle.js_heap.specs.Object.{plain_object, PrototypesAreOlder};
+ghost use Rattle.js_heap.specs.Environment.{plain_environment, OutersAreOlder};
+
+use crate::environment::{Binding, Environment};
+use crate::object::{ObjectRecord, Property};
+use crate::{Assign, Cell, Env, Flags, ObjectKind};
+use items::Memory;
+use js_tree::Name;
+use js_value::{Object, Str, Value};
+use std::alloc::Global;
+
+/// The objects and environments of a running program, each numbered in the order in which they
+/// were made.
+#[derive(Debug, Drop)]
+pub struct Heap {
+    alloc: Global,
+    objects: Vec<ObjectRecord>,
+    environments: Vec<Environment>,
+    ghost prototypes: { PrototypesAreOlder (map plain_object objects.items) },
+    ghost outers: { OutersAreOlder (map plain_environment environments.items) },
+}
+
+impl Heap {
+    ghost use Rattle.std.specs.Prelude.{◌≡◌, ◌↔◌, IsTrue, false, IfOk, IfSome, OnOk, OnErr, None, option_map, length};
+    ghost use Rattle.std.specs.Option.{ForSome, option_copied};
+    ghost use Rattle.js_value.specs.Objects.{object_at, kind_of, next_object, new_object, own, get, define, freeze};
+    ghost use Rattle.js_value.specs.Environments.{environment_at, next_environment, new_environment, declare, lookup, binding_at, value_of, init, assign, assign_answer};
+    ghost use Rattle.js_heap.specs.Object.{plain_kind, property_with};
+    ghost use Rattle.js_heap.specs.Environment.{plain_binding, plain_cell, plain_assign};
+    ghost use Rattle.js_heap.specs.Heap.{store_of, empty_store, HoldsObject, HoldsEnvironment, HoldsCell, is_of_array};
+
+    /// A heap of nothing, which takes no memory. What is made later is kept on the allocator.
+    pub fn new(alloc: Global) -> Heap
+        ensures { store_of result ≡ empty_store }
+    {
+        Heap {
+            alloc,
+            objects: Vec::new(alloc),
+            environments: Vec::new(alloc),
+        }
+    }
+
+    /// Makes an object that inherits from `prototype` and has no properties (ECMA-262, 10.1.12). On
+    /// want of memory nothing changes.
+    pub fn object(&mut self, kind: ObjectKind, prototype: Option<Object>) -> Result<Object, Memory>
+        requires { ForSome prototype (λ o. HoldsObject (store_of self.old) o.index) }
+        ensures ok { OnOk result (store_of self.new
+            ≡ new_object (plain_kind kind) (option_map (λ o. o.index) prototype) (store_of self.old)) }
+        ensures object { IfOk result (λ made. made.index ≡ next_object (store_of self.old)) }
+        ensures err { OnErr result (store_of self.new ≡ store_of self.old) }
+    {
+        let made = Object::at(self.objects.len() as u64);
+        self.objects.push(ObjectRecord {
+            kind,
+            prototype,
+            frozen: false,
+            properties: Vec::new(self.alloc),
+        })?;
+        Ok(made)
+    }
+
+    /// Defines the object's own property of this name, and its flags (10.1.6). On want of memory
+    /// nothing changes. It is not for an array's elements and length.
+    pub fn define(
+        &mut self,
+        object: Object,
+        name: &Str,
+        value: Value,
+        flags: Flags,
+    ) -> Result<(), Memory>
+        requires object { HoldsObject (store_of self.old) object.index }
+        requires name { is_of_array (kind_of (store_of self.old) object.index) name.now ≡ false }
+        ensures ok { OnOk result (store_of self.new
+            ≡ define object.index (property_with name.now value flags) (store_of self.old)) }
+        ensures err { OnErr result (store_of self.new ≡ store_of self.old) }
+    {
+        let key = name.copy()?;
+        let record = &mut self.objects[object.index() as usize];
+        record.define(Property { key, value, flags })
+    }
+
+    /// Freezes the object (20.1.2.6): none of its properties may be written any more, and it gets no
+    /// new ones.
+    pub fn freeze(&mut self, object: Object)
+        requires { HoldsObject (store_of self.old) object.index }
+        ensures { store_of self.new ≡ freeze object.index (store_of self.old) }
+    {
+        let record = &mut self.objects[object.index() as usize];
+        record.frozen = true;
+    }
+
+    /// The object's own property of this name (10.1.5): its value, lent, and its flags.
+    pub fn own(&self, object: Object, name: &Str) -> Option<(&Value, Flags)>
+        requires { HoldsObject (store_of self.now) object.index }
+        ensures { option_map (λ found. property_with name.now found.0.now found.1) result
+            ≡ own (store_of self.now) object.index name.now }
+    {
+        let property = self.record(object).own(name)?;
+        Some((&property.value, property.flags))
+    }
+
+    /// What the object is.
+    pub fn kind(&self, object: Object) -> &ObjectKind
+        requires { HoldsObject (store_of self.now) object.index }
+        ensures { plain_kind result.now ≡ kind_of (store_of self.now) object.index }
+    {
+        &self.record(object).kind
+    }
+
+    /// What the object inherits from (10.1.1).
+    pub fn proto(&self, object: Object) -> Option<Object>
+        requires { HoldsObject (store_of self.now) object.index }
+        ensures answer { option_map (λ o. o.index) result
+            ≡ (object_at (store_of self.now) object.index).prototype }
+        ensures held { IfSome result (λ o. HoldsObject (store_of self.now) o.index) }
+    {
+        self.record(object).prototype
+    }
+
+    /// Whether the object is frozen.
+    pub fn is_frozen(&self, object: Object) -> bool
+        requires { HoldsObject (store_of self.now) object.index }
+        ensures { result ≡ (object_at (store_of self.now) object.index).frozen }
+    {
+        self.record(object).frozen
+    }
+
+    /// The value of the property of this name, lent: the object's own, or else the first along its
+    /// prototypes (10.1.8).
+    pub fn get(&self, object: Object, name: &Str) -> Option<&Value>
+        requires { HoldsObject (store_of self.now) object.index }
+        ensures { option_copied result ≡ get (store_of self.now) object.index name.now }
+    {
+        let mut chain = Some(object);
+        while let Some(at) = chain {
+            let record = self.record(at);
+            if let Some(property) = record.own(name) {
+                return Some(&property.value);
+            }
+            chain = record.prototype;
+        }
+        None
+    }
+
+    /// Makes an environment of no names inside another one, or inside none (9.1.2.2). On want of
+    /// memory nothing changes.
+    pub fn env(&mut self, parent: Option<Env>) -> Result<Env, Memory>
+        requires { ForSome parent (λ outer. HoldsEnvironment (store_of self.old) outer.index) }
+        ensures ok { OnOk result (store_of self.new
+            ≡ new_environment (option_map (λ outer. outer.index) parent) (store_of self.old)) }
+        ensures environment { IfOk result (λ made. made.index ≡ next_environment (store_of self.old)) }
+        ensures err { OnErr result (store_of self.new ≡ store_of self.old) }
+    {
+        let made = Env::at(self.environments.len() as u64);
+        self.environments.push(Environment {
+            outer: parent,
+            bindings: Vec::new(self.alloc),
+        })?;
+        Ok(made)
+    }
+
+    /// Declares one more name of the environment (9.1.1.1.2 and 9.1.1.1.3). Without a value it is
+    /// not initialized yet. On want of memory nothing changes.
+    pub fn declare(
+        &mut self,
+        env: Env,
+        name: &Name,
+        value: Option<Value>,
+        constant: bool,
+    ) -> Result<Cell, Memory>
+        requires { HoldsEnvironment (store_of self.old) env.index }
+        ensures ok { OnOk result (store_of self.new ≡ declare env.index
+            (record { name = name.now; value = value; constant = constant }) (store_of self.old)) }
+        ensures cell { IfOk result (λ cell. plain_cell cell ≡ record {
+          environment = env.index;
+          place = length (environment_at (store_of self.old) env.index).bindings;
+        }) }
+        ensures err { OnErr result (store_of self.new ≡ store_of self.old) }
+    {
+        let name = Name::from_str(self.alloc, name.as_str())?;
+        let environment = &mut self.environments[env.index() as usize];
+        let place = environment.declare(Binding {
+            name,
+            value,
+            constant,
+        })?;
+        Ok(Cell {
+            environment: env,
+            place: place as u64,
+        })
+    }
+
+    /// The cell of this name: of the environment, or else of the first outward that has it (9.1.2.1).
+    pub fn lookup(&self, env: Env, name: &Name) -> Option<Cell>
+        requires { HoldsEnvironment (store_of self.now) env.index }
+        ensures answer { option_map plain_cell result
+            ≡ lookup (store_of self.now) env.index name.now }
+        ensures held { IfSome result (λ cell. HoldsCell (store_of self.now) (plain_cell cell)) }
+    {
+        let mut chain = Some(env);
+        while let Some(at) = chain {
+            let environment = self.environment(at);
+            if let Some(place) = environment.place_of(name) {
+                return Some(Cell {
+                    environment: at,
+                    place: place as u64,
+                });
+            }
+            chain = environment.outer;
+        }
+        None
+    }
+
+    /// The value of the cell, lent, or none where it is not initialized (9.1.1.1.6).
+    pub fn value_of(&self, cell: Cell) -> Option<&Value>
+        requires { HoldsCell (store_of self.now) (plain_cell cell) }
+        ensures { option_copied result ≡ value_of (store_of self.now) (plain_cell cell) }
+    {
+        self.binding(cell).value.as_ref()
+    }
+
+    /// Gives a cell that is not initialized its first value (9.1.1.1.4).
+    pub fn init(&mut self, cell: Cell, value: Value)
+        requires cell { HoldsCell (store_of self.old) (plain_cell cell) }
+        requires dead { value_of (store_of self.old) (plain_cell cell) ≡ None }
+        ensures { store_of self.new ≡ init (plain_cell cell) value (store_of self.old) }
+    {
+        let environment = &mut self.environments[cell.environment.index() as usize];
+        environment.init(cell.place as usize, value);
+    }
+
+    /// Gives the cell the value, where it is initialized and not constant (9.1.1.1.5).
+    pub fn assign(&mut self, cell: Cell, value: Value) -> Assign
+        requires { HoldsCell (store_of self.old) (plain_cell cell) }
+        ensures answer { plain_assign result
+            ≡ assign_answer (store_of self.old) (plain_cell cell) }
+        ensures after { store_of self.new
+            ≡ assign (plain_cell cell) value (store_of self.old) }
+    {
+        let environment = &mut self.environments[cell.environment.index() as usize];
+        environment.assign(cell.place as usize, value)
+    }
+
+    /// Whether the object is one of this heap.
+    pub fn holds_object(&self, object: Object) -> bool
+        ensures { IsTrue result ↔ HoldsObject (store_of self.now) object.index }
+    {
+        object.index() < self.objects.len() as u64
+    }
+
+    /// Whether the environment is one of this heap.
+    pub fn holds_environment(&self, env: Env) -> bool
+        ensures { IsTrue result ↔ HoldsEnvironment (store_of self.now) env.index }
+    {
+        env.index() < self.environments.len() as u64
+    }
+
+    /// The object, lent.
+    fn record(&self, object: Object) -> &ObjectRecord
+        requires { HoldsObject (store_of self.now) object.index }
+        ensures { plain_object result.now ≡ object_at (store_of self.now) object.index }
+    {
+        &self.objects[object.index() as usize]
+    }
+
+    /// The environment, lent.
+    fn environment(&self, env: Env) -> &Environment
+        requires { HoldsEnvironment (store_of self.now) env.index }
+        ensures { plain_environment result.now ≡ environment_at (store_of self.now) env.index }
+    {
+        &self.environments[env.index() as usize]
+    }
+
+    /// The name that the cell is of, lent.
+    fn binding(&self, cell: Cell) -> &Binding
+        requires { HoldsCell (store_of self.now) (plain_cell cell) }
+        ensures { plain_binding result.now ≡ binding_at (store_of self.now) (plain_cell cell) }
+    {
+        &self.environment(cell.environment).bindings[cell.place as usize]
+    }
+}

@@ -1,0 +1,2 @@
+pub mod NativeLemmas
+pub mod OpeningLemmas

@@ -1,0 +1,3 @@
+pub mod ErrorKind
+pub mod Native
+pub mod Opening

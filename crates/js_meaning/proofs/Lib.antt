@@ -1,0 +1,6 @@
+mod Grown
+mod Growth
+mod Handle
+mod Read
+mod Said
+mod Worked

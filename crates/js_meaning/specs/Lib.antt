@@ -1,0 +1,11 @@
+pub mod Effects
+pub mod Files
+pub mod Language
+pub mod Laws
+pub mod Marks
+pub mod Meaning
+pub mod Program
+pub mod Rows
+pub mod Steps
+pub mod VarNames
+pub mod World

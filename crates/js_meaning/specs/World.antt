@@ -1,0 +1,104 @@
+-- How a program runs: its end, what it prints, and what it enters, with so many steps.
+use Rattle.std.specs.Prelude.{ℕ, zero, suc, ◌+◌, Bool, true, false, ◌&&◌, List, [], ◌∷◌, ◌++◌, Option, Some, None, nat_eq, codes, if◌then◌else◌, option_map}
+use Rattle.js_value.specs.declared.value.Value.{Value}
+use Rattle.js_value.specs.declared.value.Value.TheVariants as value
+use Rattle.js_value.specs.declared.value.Primitive.TheVariants as primitive
+use Rattle.js_value.specs.Operators.{text_of_primitive}
+use Rattle.js_value.specs.State.{ObjectKind, Plain, Array, Error, RegExp, BuiltIn, Written, Entered, Store}
+use Rattle.js_value.specs.Objects.{kind_of, get}
+use Rattle.js_value.specs.Host.{utf8_of}
+use Rattle.js_value.specs.Realm.{realm, undefined}
+use Rattle.js_meaning.specs.declared.outcome.Completion.{Completion}
+use Rattle.js_meaning.specs.declared.outcome.Completion.TheVariants.{Normal, Break, Continue, Return, Throw}
+use Rattle.js_meaning.specs.declared.outcome.Outcome.{Outcome}
+use Rattle.js_meaning.specs.declared.outcome.Outcome.TheVariants.{Completes, Refuses, Stops}
+use Rattle.js_meaning.specs.declared.outcome.End.{End}
+use Rattle.js_meaning.specs.declared.outcome.End.TheVariants.{Done, Threw, Range, Going}
+use Rattle.js_meaning.specs.Effects.{Ran, exec}
+use Rattle.js_meaning.specs.Program.{Sources, uncounted, file_at}
+use Rattle.js_meaning.specs.Files.{inside, start_file}
+
+-- What is shown of a thrown value
+
+-- of an object that is no error, and of one that is a part of an error
+abbrev pub shown_kind : ObjectKind → List ℕ
+shown_kind (BuiltIn function) = codes "function"
+shown_kind (Written code env) = codes "function"
+shown_kind _ = codes "object"
+
+abbrev pub shown_part : Store → Option Value → List ℕ
+shown_part s None = text_of_primitive primitive.Undefined
+shown_part s (Some (value.Primitive p)) = text_of_primitive p
+shown_part s (Some (value.Object o)) = shown_kind (kind_of s o.index)
+
+-- a name, and `: ` and a message where there is one
+abbrev pub titled : List ℕ → List ℕ → List ℕ
+titled name [] = name
+titled name (u ∷ us) = name ++ codes ": " ++ u ∷ us
+
+abbrev pub shown_object : Store → ℕ → ObjectKind → List ℕ
+shown_object s o Error = titled (shown_part s (get s o (codes "name"))) (shown_part s (get s o (codes "message")))
+shown_object s o kind = shown_kind kind
+
+abbrev pub shown_units : Store → Value → List ℕ
+shown_units s (value.Primitive p) = text_of_primitive p
+shown_units s (value.Object o) = shown_object s o.index (kind_of s o.index)
+
+abbrev pub shown : Store → Value → List ℕ
+shown s v = utf8_of (shown_units s v)
+
+-- Runs
+
+-- what a program's file does with so many steps
+abbrev pub meaning : Sources → ℕ → ℕ → Ran
+meaning p file n = exec (inside p) n (start_file p file) realm
+
+abbrev pub end_of_completion : Store → Completion → End
+end_of_completion s (Throw v) = Threw (shown s v)
+end_of_completion s _ = Done
+
+abbrev pub end_of : Outcome → Store → End
+end_of (Completes c) s = end_of_completion s c
+end_of (Refuses k) s = Range k
+end_of Stops s = Going
+
+-- what is told of a run
+pub record World : Type 0 where
+  pub end : End
+  pub output : List ℕ
+  pub log : List Entered
+  pub started : List ℕ
+  pub starts : List ℕ
+
+abbrev pub told : Ran → World
+told r = record {
+  end = end_of r.outcome r.store;
+  output = r.store.output;
+  log = r.store.log;
+  started = r.store.started;
+  starts = r.store.starts;
+}
+
+-- the run of the file at a path: none where no file has the path
+abbrev pub world : Sources → List ℕ → ℕ → Option World
+world p path n = option_map (λ file. told (meaning p file n)) (file_at p path)
+
+-- a run as it is without counting, and the store that it leaves
+pub record PlainRun : Type 0 where
+  pub end : End
+  pub store : Store
+
+abbrev pub plainly : Ran → PlainRun
+plainly r = record { end = end_of r.outcome r.store; store = r.store }
+
+abbrev pub plain : Sources → List ℕ → ℕ → Option PlainRun
+plain p path n = option_map (λ file. plainly (meaning (uncounted p) file n)) (file_at p path)
+
+-- how often a construct was entered by one of its paths
+abbrev pub is_entry : ℕ → ℕ → ℕ → Entered → Bool
+is_entry file construct path e = nat_eq e.file file && nat_eq e.construct construct && nat_eq e.path path
+
+abbrev pub entered : List Entered → ℕ → ℕ → ℕ → ℕ
+entered [] file construct path = 0
+entered (e ∷ es) file construct path =
+    if is_entry file construct path e then suc (entered es file construct path) else entered es file construct path
