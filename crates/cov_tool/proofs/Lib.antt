@@ -1,5 +1,6 @@
 pub mod Due
+pub mod Faults
+pub mod Fits
 pub mod LineLemmas
-pub mod PathLemmas
 pub mod Placed
 pub mod Reached

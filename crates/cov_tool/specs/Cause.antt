@@ -11,8 +11,11 @@ use Rattle.js_scopes.specs.Accepted.{Accepted}
 use Rattle.js_scopes.specs.Checks.{first_reserved}
 use Rattle.cov_base.specs.Store.{Held}
 use Rattle.cov_base.specs.Sink.{after_more, TakesPrefix}
-use Rattle.cov_tool.specs.Program.{maps_text}
+use Rattle.js_meaning.specs.declared.outcome.End.{End}
+use Rattle.cov_words.specs.Words.{Request}
+use Rattle.cov_tool.specs.Program.{answer_of, file_of}
 use Rattle.cov_tool.specs.Line as said
+use Rattle.cov_tool.specs.declared.answer.Answer.{Answer}
 use Rattle.cov_tool.specs.declared.fault.Fault.{Fault}
 use Rattle.cov_tool.specs.declared.fault.Fault.TheVariants as fault
 use Rattle.cov_tool.specs.declared.status.Status.{Status}
@@ -52,13 +55,13 @@ IsReadingFault fault.ReadFailed told path = Unit {0}
 IsReadingFault fault.OutOfMemory told path = Unit {0}
 IsReadingFault other told path = ⊥
 
--- why a file's maps aren't printed whole
-abbrev pub IsCause : Fault → Option Held → List ℕ → Type 0
-IsCause fault.NoFile told path = Holds told path None
-IsCause fault.ReadFailed told path = Unit {0}
-IsCause fault.WriteFailed told path = (bytes : List ℕ) × (tree : File) × Holds told path (Some bytes) × Accepted bytes tree
-IsCause fault.OutOfMemory told path = Unit {0}
-IsCause why told path = (bytes : List ℕ) × Holds told path (Some bytes) × IsBytesFault why bytes
+-- why the answer to a request isn't printed whole
+abbrev pub IsCause : Fault → Option Held → Request → Type 0
+IsCause fault.NoFile told request = Holds told (file_of request) None
+IsCause fault.ReadFailed told request = Unit {0}
+IsCause fault.WriteFailed told request = (bytes : List ℕ) × (tree : File) × Holds told (file_of request) (Some bytes) × Accepted bytes tree
+IsCause fault.OutOfMemory told request = Unit {0}
+IsCause why told request = (bytes : List ℕ) × Holds told (file_of request) (Some bytes) × IsBytesFault why bytes
 
 -- what is said of a fault
 abbrev pub message_at : Fault → List ℕ → said.Message
@@ -84,16 +87,19 @@ status_of said.WriteFailed = status.WriteFault
 status_of said.OutOfMemory = status.Memory
 status_of (said.TooLong path) = status.Limit
 status_of (said.NoFile path) = status.NoFile
+status_of (said.Uncaught shown) = status.Threw
+status_of (said.Range why) = status.Range
+status_of (said.Going turns) = status.Going
 
--- the text is that of the maps of these bytes
-abbrev pub IsMapsOf : List ℕ → List ℕ → List ℕ → Type 0
-IsMapsOf path bytes text = (tree : File) × Accepted bytes tree × HasOnly bytes tree × (text ≡ maps_text path bytes tree)
+-- the answer is that to a request whose file has these bytes
+abbrev pub IsAnswerTo : Request → List ℕ → Answer → Type 0
+IsAnswerTo request bytes answer = (tree : File) × Accepted bytes tree × HasOnly bytes tree × (answer ≡ answer_of request bytes tree)
 
--- nothing was printed, or a prefix of a file's maps
-pub data PrintsAtMost (told : Option Held) (path : List ℕ) (before after : Option (List ℕ)) : Type 0 where
-  nothing : after ≡ before → PrintsAtMost told path before after
-  some : {bytes : List ℕ} {tree : File} → Holds told path (Some bytes) → Accepted bytes tree → HasOnly bytes tree →
-      TakesPrefix before after (maps_text path bytes tree) → PrintsAtMost told path before after
+-- nothing was printed, or a prefix of a request's output
+pub data PrintsAtMost (told : Option Held) (request : Request) (before after : Option (List ℕ)) : Type 0 where
+  nothing : after ≡ before → PrintsAtMost told request before after
+  some : {bytes : List ℕ} {tree : File} → Holds told (file_of request) (Some bytes) → Accepted bytes tree → HasOnly bytes tree →
+      TakesPrefix before after (answer_of request bytes tree).output → PrintsAtMost told request before after
 
 -- with these faults nothing was printed
 abbrev pub IsBeforePrinting : Fault → Type 0
@@ -101,10 +107,15 @@ IsBeforePrinting fault.WriteFailed = ⊥
 IsBeforePrinting fault.OutOfMemory = ⊥
 IsBeforePrinting other = Unit {0}
 
--- a file's maps were printed whole
-abbrev pub PrintsWhole : Option Held → List ℕ → Option (List ℕ) → Option (List ℕ) → Type 0
-PrintsWhole told path before after =
-    (bytes : List ℕ) × (tree : File) × Holds told path (Some bytes) × Accepted bytes tree × (after ≡ after_more before (maps_text path bytes tree))
+-- a request's output was printed whole, and this is its end
+pub record IsAnswered (told : Option Held) (request : Request) (end : End) (before after : Option (List ℕ)) : Type 0 where
+  pub bytes : List ℕ
+  pub tree : File
+  pub held : Holds told (file_of request) (Some bytes)
+  pub accepted : Accepted bytes tree
+  pub only : HasOnly bytes tree
+  pub ends : (answer_of request bytes tree).end ≡ end
+  pub printed : after ≡ after_more before (answer_of request bytes tree).output
 
 -- printing fails by the sink, or for want of memory
 abbrev pub IsPrintingFault : Fault → Type 0

@@ -2,5 +2,3 @@ pub mod Cause
 pub mod Program
 pub mod Hash
 pub mod Line
-pub mod Path
-pub mod Words

@@ -13,18 +13,33 @@ use Rattle.js_text.specs.Position.{position}
 use Rattle.js_text.specs.Reads.{Reads, NoTree, TooHigh}
 use Rattle.js_scopes.specs.Accepted.{Accepted}
 use Rattle.js_scopes.specs.Checks.{first_reserved}
+use Rattle.js_meaning.specs.declared.outcome.End.{End}
+use Rattle.js_meaning.specs.declared.outcome.End.TheVariants as outcome
+use Rattle.js_meaning.specs.World.{PlainRun}
 use Rattle.cov_base.specs.Store.{Held}
 use Rattle.cov_base.specs.Sink.{after_more, TakesPrefix}
 use Rattle.cov_base.specs.Causes.{Rose}
 use Rattle.cov_object.specs.Json.{object_of}
 use Rattle.cov_maps.specs.Zero.{zero_data}
+use Rattle.cov_words.specs.Words.{Request, Maps, Exec, command_of}
+use Rattle.cov_run.specs.Exec.{run_of}
 use Rattle.cov_tool.specs.Hash.{hash_text}
 use Rattle.cov_tool.specs.Line as said
-use Rattle.cov_tool.specs.Words.{Maps, command_of}
+use Rattle.cov_tool.specs.declared.answer.Answer.{Answer}
 use Rattle.cov_tool.specs.declared.status.Status.{Status}
 use Rattle.cov_tool.specs.declared.status.Status.TheVariants as status
 
--- ---- what is printed
+-- ---- what is asked, and what is answered
+
+-- the file that a request names
+abbrev pub file_of : Request → List ℕ
+file_of (Maps path) = path
+file_of (Exec turns path) = path
+
+-- the steps that it allows: `maps` runs nothing
+abbrev pub turns_of : Request → ℕ
+turns_of (Maps path) = 0
+turns_of (Exec turns path) = turns
 
 -- the JSON of a coverage map with one file alone
 abbrev pub map_text : List ℕ → Data → List ℕ
@@ -34,48 +49,75 @@ map_text path coverage = compact_text (object_of ((path, coverage) ∷ []))
 abbrev pub maps_text : List ℕ → List ℕ → File → List ℕ
 maps_text path bytes tree = map_text path (zero_data path (hash_text bytes) (constructs_file tree)) ++ 0x0A ∷ []
 
+-- the answer of a run: what it printed, and how it ended
+abbrev pub answer_of_run : PlainRun → Answer
+answer_of_run run = record { output = run.store.output; end = run.end }
+
+-- the answer to a request whose file has these bytes and this tree
+abbrev pub answer_of : Request → List ℕ → File → Answer
+answer_of (Maps path) bytes tree = record { output = maps_text path bytes tree; end = outcome.Done }
+answer_of (Exec turns path) bytes tree = answer_of_run (run_of path tree turns)
+
+-- the status of an end
+abbrev pub status_of_end : End → Status
+status_of_end outcome.Done = status.Ok
+status_of_end (outcome.Threw shown) = status.Threw
+status_of_end (outcome.Range why) = status.Range
+status_of_end outcome.Going = status.Going
+
 -- ---- when each status is due; `told` is what the store holds, where it tells
 
--- the words name this file, and where the store tells, this is what it holds there
-pub record Finds (words : List (List ℕ)) (told : Option Held) (path : List ℕ) (found : Option (List ℕ)) : Type 0 where
-  pub named : command_of words ≡ Some (Maps path)
-  pub held : IfSome told (λ at. at path ≡ found)
+-- the words ask this, and where the store tells, this is what it holds of the file that is named
+pub record Finds (words : List (List ℕ)) (told : Option Held) (request : Request) (found : Option (List ℕ)) : Type 0 where
+  pub named : command_of words ≡ Some request
+  pub held : IfSome told (λ at. at (file_of request) ≡ found)
 
 -- the words have no reading
 abbrev pub HasNoReading : List (List ℕ) → Type 0
 HasNoReading words = command_of words ≡ None
 
 -- there is no such file
-abbrev pub HasNoFile : List (List ℕ) → Option Held → List ℕ → Type 0
-HasNoFile words told path = Finds words told path None
+abbrev pub HasNoFile : List (List ℕ) → Option Held → Request → Type 0
+HasNoFile words told request = Finds words told request None
 
 -- the file is longer than a source may be
-pub record IsTooLong (words : List (List ℕ)) (told : Option Held) (path : List ℕ) : Type 0 where
+pub record IsTooLong (words : List (List ℕ)) (told : Option Held) (request : Request) : Type 0 where
   pub bytes : List ℕ
-  pub finds : Finds words told path (Some bytes)
+  pub finds : Finds words told request (Some bytes)
   pub longer : source_limits.bytes < length bytes
 
 -- the file is within the limit, and no source
-pub record IsRefused (words : List (List ℕ)) (told : Option Held) (path bytes : List ℕ) : Type 0 where
-  pub finds : Finds words told path (Some bytes)
+pub record IsRefused (words : List (List ℕ)) (told : Option Held) (request : Request) (bytes : List ℕ) : Type 0 where
+  pub finds : Finds words told request (Some bytes)
   pub within : length bytes ≤ source_limits.bytes
   pub no_source : (tree : File) → Accepted bytes tree → ⊥
 
 -- the file is a source, read to this tree
-pub record IsAccepted (words : List (List ℕ)) (told : Option Held) (path bytes : List ℕ) (tree : File) : Type 0 where
-  pub finds : Finds words told path (Some bytes)
+pub record IsAccepted (words : List (List ℕ)) (told : Option Held) (request : Request) (bytes : List ℕ) (tree : File) : Type 0 where
+  pub finds : Finds words told request (Some bytes)
   pub accepted : Accepted bytes tree
+
+-- the file is a source, and the answer ends with this status
+pub record Ends (result : Status) (words : List (List ℕ)) (told : Option Held) : Type 0 where
+  pub request : Request
+  pub bytes : List ℕ
+  pub tree : File
+  pub accepted : IsAccepted words told request bytes tree
+  pub ends : status_of_end (answer_of request bytes tree).end ≡ result
 
 -- the cause of each status; memory may be wanting at any point
 abbrev pub IsDue : Status → List (List ℕ) → Option Held → Type 0
-IsDue status.Ok words told = (path bytes : List ℕ) × (tree : File) × IsAccepted words told path bytes tree
+IsDue status.Ok words told = Ends status.Ok words told
+IsDue status.Threw words told = Ends status.Threw words told
 IsDue status.Usage words told = HasNoReading words
-IsDue status.Refused words told = (path bytes : List ℕ) × IsRefused words told path bytes
-IsDue status.ReadFault words told = (path : List ℕ) × (command_of words ≡ Some (Maps path))
-IsDue status.WriteFault words told = (path bytes : List ℕ) × (tree : File) × IsAccepted words told path bytes tree
+IsDue status.Refused words told = (request : Request) × (bytes : List ℕ) × IsRefused words told request bytes
+IsDue status.ReadFault words told = (request : Request) × (command_of words ≡ Some request)
+IsDue status.WriteFault words told = (request : Request) × (bytes : List ℕ) × (tree : File) × IsAccepted words told request bytes tree
+IsDue status.Range words told = Ends status.Range words told
+IsDue status.Going words told = Ends status.Going words told
 IsDue status.Memory words told = Unit {0}
-IsDue status.Limit words told = (path : List ℕ) × IsTooLong words told path
-IsDue status.NoFile words told = (path : List ℕ) × HasNoFile words told path
+IsDue status.Limit words told = (request : Request) × IsTooLong words told request
+IsDue status.NoFile words told = (request : Request) × HasNoFile words told request
 
 -- the status comes only where it is due
 abbrev pub OnlyWhere : Status → Status → List (List ℕ) → Option Held → Type 0
@@ -101,25 +143,33 @@ pub record IsUsage (result : Status) (words : List (List ℕ)) : Type 0 where
 
 -- ---- what has been printed
 
--- the output that is defined: of a source its maps, else nothing
+-- the output that is defined: of a source that of its answer, else nothing
 pub data IsOutput (words : List (List ℕ)) (told : Option Held) : List ℕ → Type 0 where
-  accepted : {path bytes : List ℕ} {tree : File} → IsAccepted words told path bytes tree → IsOutput words told (maps_text path bytes tree)
-  none : ((path bytes : List ℕ) (tree : File) → IsAccepted words told path bytes tree → ⊥) → IsOutput words told []
+  accepted : {request : Request} {bytes : List ℕ} {tree : File} → IsAccepted words told request bytes tree →
+      IsOutput words told (answer_of request bytes tree).output
+  none : ((request : Request) (bytes : List ℕ) (tree : File) → IsAccepted words told request bytes tree → ⊥) → IsOutput words told []
 
--- a source's maps were printed whole
-pub record PrintsMaps (words : List (List ℕ)) (told : Option Held) (before after : Option (List ℕ)) : Type 0 where
-  pub path : List ℕ
-  pub bytes : List ℕ
-  pub tree : File
-  pub accepted : IsAccepted words told path bytes tree
-  pub printed : after ≡ after_more before (maps_text path bytes tree)
+-- with these statuses all of it was printed
+abbrev pub PrintsAll : Status → Type 0
+PrintsAll status.Ok = Unit {0}
+PrintsAll status.Threw = Unit {0}
+PrintsAll status.Range = Unit {0}
+PrintsAll status.Going = Unit {0}
+PrintsAll other = ⊥
 
--- with these statuses nothing was printed
+-- that of an answer which ends with the status was printed whole
+pub record PrintsOutput (result : Status) (words : List (List ℕ)) (told : Option Held) (before after : Option (List ℕ)) : Type 0 where
+  pub due : Ends result words told
+  pub printed : after ≡ after_more before (answer_of due.request due.bytes due.tree).output
+
+-- and with these nothing was
 abbrev pub PrintsNothing : Status → Type 0
-PrintsNothing status.Ok = ⊥
-PrintsNothing status.WriteFault = ⊥
-PrintsNothing status.Memory = ⊥
-PrintsNothing other = Unit {0}
+PrintsNothing status.Usage = Unit {0}
+PrintsNothing status.Refused = Unit {0}
+PrintsNothing status.ReadFault = Unit {0}
+PrintsNothing status.Limit = Unit {0}
+PrintsNothing status.NoFile = Unit {0}
+PrintsNothing other = ⊥
 
 -- ---- the line on standard error
 
@@ -132,16 +182,31 @@ pub data IsRefusal (path bytes : List ℕ) : said.Message → Type 0 where
   reserved : {tree : File} {place : Pos} → IsUtf8 bytes → Reads bytes tree → height_file tree ≤ source_limits.height →
       first_reserved tree ≡ Some place → IsRefusal path bytes (said.Reserved path place)
 
+-- what is said of an end, which of Done is nothing
+abbrev pub said_of : Request → End → Option said.Message
+said_of request outcome.Done = None
+said_of request (outcome.Threw shown) = Some (said.Uncaught shown)
+said_of request (outcome.Range why) = Some (said.Range why)
+said_of request outcome.Going = Some (said.Going (turns_of request))
+
+-- the answer ends with the status, and this is said of that end
+pub record SaysEnd (result : Status) (words : List (List ℕ)) (told : Option Held) (message : said.Message) : Type 0 where
+  pub due : Ends result words told
+  pub said : said_of due.request (answer_of due.request due.bytes due.tree).end ≡ Some message
+
 -- what is said with each status, but for Ok, with which nothing is
 abbrev pub IsMessage : Status → List (List ℕ) → Option Held → said.Message → Type 0
 IsMessage status.Ok words told message = ⊥
+IsMessage status.Threw words told message = SaysEnd status.Threw words told message
 IsMessage status.Usage words told message = message ≡ said.Usage
-IsMessage status.Refused words told message = (path bytes : List ℕ) × IsRefused words told path bytes × IsRefusal path bytes message
-IsMessage status.ReadFault words told message = (path : List ℕ) × (command_of words ≡ Some (Maps path)) × (message ≡ said.ReadFailed path)
+IsMessage status.Refused words told message = (request : Request) × (bytes : List ℕ) × IsRefused words told request bytes × IsRefusal (file_of request) bytes message
+IsMessage status.ReadFault words told message = (request : Request) × (command_of words ≡ Some request) × (message ≡ said.ReadFailed (file_of request))
 IsMessage status.WriteFault words told message = message ≡ said.WriteFailed
+IsMessage status.Range words told message = SaysEnd status.Range words told message
+IsMessage status.Going words told message = SaysEnd status.Going words told message
 IsMessage status.Memory words told message = message ≡ said.OutOfMemory
-IsMessage status.Limit words told message = (path : List ℕ) × IsTooLong words told path × (message ≡ said.TooLong path)
-IsMessage status.NoFile words told message = (path : List ℕ) × HasNoFile words told path × (message ≡ said.NoFile path)
+IsMessage status.Limit words told message = (request : Request) × IsTooLong words told request × (message ≡ said.TooLong (file_of request))
+IsMessage status.NoFile words told message = (request : Request) × HasNoFile words told request × (message ≡ said.NoFile (file_of request))
 
 -- the line, which with Ok is none
 abbrev pub IsLine : Status → List (List ℕ) → Option Held → List ℕ → Type 0

@@ -24,6 +24,9 @@ fn status_of(complaint: &Complaint<'_>) -> Status
         Complaint::OutOfMemory => Status::Memory,
         Complaint::TooLong { path: _ } => Status::Limit,
         Complaint::NoFile { path: _ } => Status::NoFile,
+        Complaint::Uncaught { shown: _ } => Status::Threw,
+        Complaint::Range { kind: _ } => Status::Range,
+        Complaint::Going { turns: _ } => Status::Going,
     }
 }
 
@@ -47,7 +50,7 @@ pub(crate) fn complain<E: Sink>(alloc: Global, complaint: &Complaint<'_>, err: &
         say_out_of_memory(err);
         return Status::Memory;
     };
-    match write_all(err, text.as_bytes()) {
+    match write_all(err, text.as_slice()) {
         Ok(()) | Err(Failed::Device) => status_of(complaint),
         Err(Failed::Memory) => Status::Memory,
     }

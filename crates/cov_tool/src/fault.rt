@@ -4,7 +4,7 @@ use crate::line::Complaint;
 use js_tree::Pos;
 use std::alloc::AllocError;
 
-/// Why a file's maps aren't printed.
+/// Why the answer to a file isn't printed.
 #[derive(Clone, Copy, Debug, PartialEq, Eq)]
 pub(crate) enum Fault {
     /// There is no such file.
@@ -21,7 +21,7 @@ pub(crate) enum Fault {
     TooDeep { at: Pos },
     /// The name here is reserved.
     Reserved { at: Pos },
-    /// The maps couldn't be written.
+    /// The answer couldn't be written.
     WriteFailed,
     /// Want of memory.
     OutOfMemory,

@@ -1,15 +1,19 @@
 //! The top call: all that the program does.
 #![tactic(auto)]
 
+mod answer;
 mod complain;
+mod exec;
 mod fault;
 mod hash;
 mod line;
 mod maps;
-mod path;
+mod print;
 mod program;
+mod request;
+mod source;
 mod status;
-mod words;
+mod work;
 
 pub use program::cov;
 pub use status::Status;

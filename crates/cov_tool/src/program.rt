@@ -1,21 +1,23 @@
 ghost use Rattle.std.specs.Prelude.{◌≡◌, ◌≢◌, ℕ, List, IsSome, map, string_bytes};
 ghost use Rattle.cov_base.specs.Causes.{Rose};
 ghost use Rattle.cov_base.specs.Sink.{TakesPrefix};
-ghost use Rattle.cov_tool.specs.Program.{IsDue, ExactlyWhere, IsUsage, IsOutput, PrintsMaps, PrintsNothing, SaysLine, SaysAtMost};
+ghost use Rattle.cov_tool.specs.Program.{IsDue, ExactlyWhere, IsUsage, IsOutput, PrintsAll, PrintsOutput, PrintsNothing, SaysLine, SaysAtMost};
 
 use crate::complain::complain;
 use crate::line::Complaint;
-use crate::maps::maps;
+use crate::request::{file_of, said_of};
 use crate::status::Status;
-use crate::words::{command_of, file_of};
+use crate::work::work;
 use cov_base::{Sink, Store};
+use cov_words::command_of;
 use std::alloc::Global;
 
 /// Does all that the program does: takes the words after the program's name, reads from the store,
 /// prints to `out`, complains on `err`, and gives the exit status.
 ///
-/// Today there is one command, `maps FILE`: it prints the zero FileCoverage of a source file as
-/// Istanbul's JSON has it, and LF.
+/// There are two commands. `maps FILE` prints the zero FileCoverage of a source file as Istanbul's
+/// JSON has it, and LF. `exec [--turns N] FILE` runs a source file and prints what it prints; where
+/// the run ends otherwise than done, that is said after it.
 pub fn cov<S: Store, O: Sink, E: Sink>(
     alloc: Global,
     words: &[String],
@@ -25,8 +27,11 @@ pub fn cov<S: Store, O: Sink, E: Sink>(
 ) -> Status
     // When each status comes. Want of memory may come at any point.
     ensures ok { ExactlyWhere result Status.Ok (map string_bytes words.now) (S.held store.old) }
+    ensures threw { ExactlyWhere result Status.Threw (map string_bytes words.now) (S.held store.old) }
     ensures usage { IsUsage result (map string_bytes words.now) }
     ensures refused { ExactlyWhere result Status.Refused (map string_bytes words.now) (S.held store.old) }
+    ensures range { ExactlyWhere result Status.Range (map string_bytes words.now) (S.held store.old) }
+    ensures going { ExactlyWhere result Status.Going (map string_bytes words.now) (S.held store.old) }
     ensures limit { ExactlyWhere result Status.Limit (map string_bytes words.now) (S.held store.old) }
     ensures no_file { ExactlyWhere result Status.NoFile (map string_bytes words.now) (S.held store.old) }
     ensures due { IsDue result (map string_bytes words.now) (S.held store.old) }
@@ -34,8 +39,8 @@ pub fn cov<S: Store, O: Sink, E: Sink>(
     ensures write_fault { result ≡ Status.WriteFault → Rose (O.faults out.old) (O.faults out.new) }
 
     // What has been printed.
-    ensures printed { result ≡ Status.Ok
-        → PrintsMaps (map string_bytes words.now) (S.held store.old) (O.taken out.old) (O.taken out.new) }
+    ensures printed { PrintsAll result
+        → PrintsOutput result (map string_bytes words.now) (S.held store.old) (O.taken out.old) (O.taken out.new) }
     ensures prefix { IsSome (S.held store.old) → (output : List ℕ)
         → IsOutput (map string_bytes words.now) (S.held store.old) output
         → TakesPrefix (O.taken out.old) (O.taken out.new) output }
@@ -57,9 +62,11 @@ pub fn cov<S: Store, O: Sink, E: Sink>(
     let Some(command) = read else {
         return complain(alloc, &Complaint::Usage, err);
     };
-    let file = file_of(&command);
-    match maps(alloc, file, store, out) {
-        Ok(()) => Status::Ok,
-        Err(fault) => complain(alloc, &fault.at(file), err),
+    match work(alloc, &command, store, out) {
+        Ok(end) => match said_of(&command, &end) {
+            Some(complaint) => complain(alloc, &complaint, err),
+            None => Status::Ok,
+        },
+        Err(fault) => complain(alloc, &fault.at(file_of(&command)), err),
     }
 }

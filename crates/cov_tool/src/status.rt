@@ -3,6 +3,8 @@
 pub enum Status {
     /// The command's work is done.
     Ok = 0,
+    /// An exception wasn't caught.
+    Threw = 1,
     /// The words have no reading.
     Usage = 2,
     /// A source isn't accepted.
@@ -11,6 +13,10 @@ pub enum Status {
     ReadFault = 5,
     /// Standard output failed in a write.
     WriteFault = 6,
+    /// The program left the profile.
+    Range = 7,
+    /// The steps were used up.
+    Going = 8,
     /// Want of memory.
     Memory = 9,
     /// An input is too long.

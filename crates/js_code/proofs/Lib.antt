@@ -1,4 +1,6 @@
+pub mod DeclaredNames
 pub mod Later
 pub mod Places
 pub mod Pushed
+pub mod SeenNames
 pub mod StatementLists

@@ -5,10 +5,13 @@
 mod code;
 mod expressions;
 mod literal;
+mod names;
 mod node;
+mod once;
 mod push;
 mod statements;
 
 pub use code::Code;
 pub use literal::{Numeral, StringValue};
+pub use names::file_names;
 pub use node::Node;

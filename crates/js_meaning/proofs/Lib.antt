@@ -1,6 +1,6 @@
 mod Grown
 mod Growth
-mod Handle
+pub mod Handle
 mod Read
 mod Said
 mod Worked

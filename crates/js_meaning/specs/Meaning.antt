@@ -31,7 +31,8 @@ use Rattle.js_meaning.specs.Marks.{Marks, Unmarked, Marked, after}
 use Rattle.js_meaning.specs.Effects.{Entry, WhileTurn, Construct, Comp, ret, refuse, act, enter, handle}
 use Rattle.js_meaning.specs.Effects as E
 
--- what stands for the meaning of a form that is not in the language yet: nothing is said of it, and nothing follows from it
+-- what stands for the meaning of a form that is not in the language yet, of which nothing is said: a proof sees what it is only
+-- where it unfolds it
 unfoldable pub unsaid : Comp
 unsaid = ret (Normal undefined)
 

@@ -28,7 +28,7 @@ fn numbers(alloc: Global, number: Option<u64>) -> Result<Vec<u64>, Memory> {
     Ok(numbers)
 }
 
-/// Ends the test where the words, over the file `a;`, aren't answered so. Nothing is to be printed.
+/// Ends the test where the words, over the file `print(1);`, aren't answered so. Nothing is to be printed.
 fn expect_fault(
     rt: &impl Abort,
     alloc: Global,
@@ -39,7 +39,7 @@ fn expect_fault(
 ) -> Result<(), Fail> {
     let source = Source {
         path: "a.js",
-        bytes: b"a;",
+        bytes: b"print(1);",
     };
     let words = owned(alloc, words)?;
     let mut store = MemoryStore::new(alloc, files(alloc, source)?, numbers(alloc, faults.store)?)?;
@@ -76,6 +76,14 @@ fn faults_of_the_store_and_of_the_output_are_statuses(rt: HostRuntime) -> Result
         &rt,
         alloc,
         &maps,
+        writing,
+        Status::WriteFault,
+        "Write failed\n",
+    )?;
+    expect_fault(
+        &rt,
+        alloc,
+        &["exec", "a.js"],
         writing,
         Status::WriteFault,
         "Write failed\n",

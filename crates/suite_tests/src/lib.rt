@@ -18,6 +18,8 @@ mod reader;
 #[cfg(test)]
 mod refusals;
 #[cfg(test)]
+mod runs;
+#[cfg(test)]
 mod shapes;
 #[cfg(test)]
 mod sinks;

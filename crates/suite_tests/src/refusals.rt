@@ -56,7 +56,11 @@ fn other_words_have_no_reading(rt: HostRuntime) -> Result<(), Fail> {
     expect_usage(&rt, alloc, &["a.js"])?;
     expect_usage(&rt, alloc, &["--help"])?;
     expect_usage(&rt, alloc, &["Maps", "a.js"])?;
-    expect_usage(&rt, alloc, &["exec", "a.js"])?;
+    expect_usage(&rt, alloc, &["exec"])?;
+    expect_usage(&rt, alloc, &["exec", "--turns", "9007199254740992", "a.js"])?;
+    expect_usage(&rt, alloc, &["exec", "--turns", "-1", "a.js"])?;
+    expect_usage(&rt, alloc, &["exec", "--turns", "a.js"])?;
+    expect_usage(&rt, alloc, &["exec", "a.txt"])?;
     expect_usage(&rt, alloc, &["maps", "a.js", "b.js"])?;
     expect_usage(&rt, alloc, &["maps", "a.js", ""])
 }
@@ -255,6 +259,14 @@ fn a_file_is_too_long_or_absent(rt: HostRuntime) -> Result<(), Fail> {
         &rt,
         alloc,
         &["maps", "none.js"],
+        b"",
+        Status::NoFile,
+        "No file: none.js\n",
+    )?;
+    expect_said(
+        &rt,
+        alloc,
+        &["exec", "none.js"],
         b"",
         Status::NoFile,
         "No file: none.js\n",

@@ -1,0 +1,20 @@
+use Rattle.cov_words.proofs.LawsLemmas.{maps_file, exec_file, exec_turns, no_turns, one_file, other_name}
+use Rattle.cov_words.proofs.laws.plain_words.Goals as goal
+
+pub returns-clause-maps_file : goal.returns-clause-maps_file
+returns-clause-maps_file c = maps_file
+
+pub returns-clause-exec_file : goal.returns-clause-exec_file
+returns-clause-exec_file c = exec_file
+
+pub returns-clause-exec_turns : goal.returns-clause-exec_turns
+returns-clause-exec_turns c = exec_turns
+
+pub returns-clause-no_turns : goal.returns-clause-no_turns
+returns-clause-no_turns c = no_turns
+
+pub returns-clause-one_file : goal.returns-clause-one_file
+returns-clause-one_file c = one_file
+
+pub returns-clause-other_name : goal.returns-clause-other_name
+returns-clause-other_name c = other_name

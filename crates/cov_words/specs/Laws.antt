@@ -1,0 +1,40 @@
+-- What the plain forms ask, for any words: by clap's definitions they are as one would write them down.
+use Rattle.std.specs.Prelude.{◌≡◌, ◌⊎◌, ℕ, true, false, List, [], ◌∷◌, None, option_map, nat_eq, codes}
+use Rattle.std.specs.List.{starts_with}
+use Rattle.std.specs.Str.{bytes_eq}
+use Rattle.std.specs.Str.Parse.{digits_value, without_leading_plus}
+use Rattle.clap.specs.ValueTests.{is_unsigned_in}
+use Rattle.cov_words.specs.Path.{source_path}
+use Rattle.cov_words.specs.Words.{Maps, Exec, command_of, max_turns}
+
+-- a word that doesn't begin with `-`
+abbrev pub IsPlain : List ℕ → Type 0
+IsPlain word = starts_with nat_eq word (codes "-") ≡ false
+
+-- `maps FILE`
+abbrev pub MapsFile : Type 0
+MapsFile = (file : List ℕ) → IsPlain file → command_of (codes "maps" ∷ file ∷ []) ≡ option_map Maps (source_path file)
+
+-- `exec FILE`
+abbrev pub ExecFile : Type 0
+ExecFile = (file : List ℕ) → IsPlain file → command_of (codes "exec" ∷ file ∷ []) ≡ option_map (Exec 1000000) (source_path file)
+
+-- `exec --turns N FILE`
+abbrev pub ExecTurns : Type 0
+ExecTurns = (digits file : List ℕ) → IsPlain file → is_unsigned_in 0 max_turns digits ≡ true →
+    command_of (codes "exec" ∷ codes "--turns" ∷ digits ∷ file ∷ []) ≡ option_map (Exec (digits_value 10 (without_leading_plus digits))) (source_path file)
+
+-- N out of range, or no number
+abbrev pub NoTurns : Type 0
+NoTurns = (turns file : List ℕ) → IsPlain turns → IsPlain file → is_unsigned_in 0 max_turns turns ≡ false →
+    command_of (codes "exec" ∷ codes "--turns" ∷ turns ∷ file ∷ []) ≡ None
+
+-- two words where one is FILE
+abbrev pub OneFile : Type 0
+OneFile = (name first second : List ℕ) → (name ≡ codes "maps") ⊎ (name ≡ codes "exec") → IsPlain first → IsPlain second →
+    command_of (name ∷ first ∷ second ∷ []) ≡ None
+
+-- another name than those of the two commands, whatever follows it
+abbrev pub OtherName : Type 0
+OtherName = (name : List ℕ) (words : List (List ℕ)) → IsPlain name → bytes_eq (codes "maps") name ≡ false → bytes_eq (codes "exec") name ≡ false →
+    command_of (name ∷ words) ≡ None

@@ -1,0 +1,4 @@
+pub mod Path
+pub mod Words
+pub mod WorkedWords
+pub mod Laws

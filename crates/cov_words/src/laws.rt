@@ -1,0 +1,11 @@
+ghost use Rattle.cov_words.specs.Laws.{MapsFile, ExecFile, ExecTurns, NoTurns, OneFile, OtherName};
+
+/// What the plain forms ask, for any words.
+pub fn plain_words()
+    ensures maps_file { MapsFile }
+    ensures exec_file { ExecFile }
+    ensures exec_turns { ExecTurns }
+    ensures no_turns { NoTurns }
+    ensures one_file { OneFile }
+    ensures other_name { OtherName }
+{}

@@ -1,0 +1,50 @@
+-- A run goes on from where the machine stands.
+use Rattle.std.proofs.Common.{◌≡◌, ℕ, ◌+◌, List, sym, ap, ◌∙◌, arith}
+use Rattle.std.specs.Option.{option_map}
+use Rattle.js_value.specs.State.{Store}
+use Rattle.js_meaning.specs.declared.outcome.End.{End}
+use Rattle.js_meaning.specs.Effects.{exec}
+use Rattle.js_meaning.specs.Program.{Sources, uncounted}
+use Rattle.js_meaning.specs.Files.{inside}
+use Rattle.js_meaning.specs.World.{meaning, plainly, end_of}
+use Rattle.js_machine.specs.declared.data.Rest.{Rest}
+use Rattle.js_machine.specs.Config.{view_of}
+use Rattle.js_machine.specs.Moves.{todo}
+use Rattle.js_machine.specs.Runs.{Runs, rest_outcome}
+use Rattle.js_machine.specs.State.{store_in}
+use Rattle.js_machine.specs.Whole.{Whole, Follows, EndsAs, Goes}
+
+module _ (steps : ℕ) (old new : Whole) (rest : Rest) (end : End)
+    (runs : (p : Sources) → Runs p (view_of old.code) steps old.here rest new.here)
+    (code : new.code ≡ old.code) (given : new.given ≡ old.given + steps)
+    (ended : (began : Store) → end ≡ end_of (rest_outcome rest) (store_in began new.here.state)) where
+  follows_on : (p : Sources) (path : List ℕ) → Follows p path old → Follows p path new
+  follows_on p path f = record {
+    file = f.file;
+    found = f.found;
+    began = f.began;
+    same = λ more.
+        let sum : new.given + more ≡ old.given + (steps + more) = omega (arith, given) in
+        ap (meaning (uncounted p) f.file) sum
+        ∙ f.same (steps + more)
+        ∙ (runs (uncounted p)).takes.same f.began more
+        ∙ ap (λ nodes. exec (inside (uncounted p)) more (todo (view_of nodes) new.here) (store_in f.began new.here.state)) (sym code);
+  }
+
+  ends_as : (p : Sources) (path : List ℕ) → Follows p path old → EndsAs p path end new
+  ends_as p path f =
+      let sum : new.given ≡ old.given + (steps + 0) = omega (arith, given) in
+      let all = ap (meaning (uncounted p) f.file) sum
+      ∙ f.same (steps + 0)
+      ∙ (runs (uncounted p)).takes.same f.began 0
+      ∙ (runs (uncounted p)).ends f.began
+      in
+      record {
+        run = plainly (meaning (uncounted p) f.file new.given);
+        is = ap (option_map (λ file. plainly (meaning (uncounted p) file new.given))) f.found;
+        end = ap (λ r. end_of r.outcome r.store) all ∙ sym (ended f.began);
+        output = ap (λ r. r.store.output) all;
+      }
+
+  pub goes : Goes old end new
+  goes = record { on = follows_on; ends = ends_as }

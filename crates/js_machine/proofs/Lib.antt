@@ -1,0 +1,14 @@
+mod Acts
+mod Entries
+mod FileBegins
+mod Goes
+mod Kept
+mod Moves
+mod Natives
+mod Opened
+mod Operators
+mod Outside
+mod Places
+mod Plug
+mod Runs
+mod ShownIn

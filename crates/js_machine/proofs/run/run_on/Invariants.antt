@@ -1,0 +1,9 @@
+-- As many steps as were taken lead here.
+use Rattle.js_meaning.specs.Program.{Sources}
+use Rattle.js_machine.specs.Config.{view_of}
+use Rattle.js_machine.specs.Moves.{here}
+use Rattle.js_machine.specs.Runs.{Takes}
+use Rattle.js_machine.proofs.run.run_on.Given as goal
+
+abbrev pub invariant-loop : goal.invariant-loop
+invariant-loop l = (p : Sources) → Takes p (view_of l.code) l.counter (here l.fn.frames.items l.fn.control l.fn.state) (here l.frames.items l.at l.state)

@@ -1,0 +1,116 @@
+// The beginning of a program, and of a file.
+
+ghost use Rattle.std.specs.Prelude.{◌≡◌, ◌+◌, [], None, IfOk, OnOk, MatchOption, position};
+ghost use Rattle.std.specs.Str.{bytes_eq};
+ghost use Rattle.js_tree.specs.Plain.{MakeFile, no_stmt};
+ghost use Rattle.js_tree.specs.Tree.{plain_file};
+ghost use Rattle.js_value.specs.Realm.{realm as the_realm};
+ghost use Rattle.js_value.specs.Objects.{next_object};
+ghost use Rattle.js_value.specs.Environments.{declare as declared};
+ghost use Rattle.js_heap.specs.Heap.{store_of, HoldsEnvironment};
+ghost use Rattle.js_meaning.specs.Files.{declare_all, file_objects, variable, variables};
+ghost use Rattle.js_meaning.specs.Program.{sources_of, source_of, file_at};
+ghost use Rattle.js_machine.specs.Opening.{Found, opened_with, opened_environment};
+
+use items::{Items, Memory};
+use js_heap::{Env, Flags, Heap, ObjectKind};
+use js_host::{ascii, global_environment, object_prototype, realm};
+use js_meaning::{Program, ProgramFile};
+use js_scopes::{Checked, ScopeFault, ScopeFaultKind, check};
+use js_tree::{File, Name};
+use js_value::{Object, Primitive, Value};
+use std::alloc::{AllocError, Global};
+
+/// The place of the file at the path among some.
+fn place_of(files: &[ProgramFile], path: &str) -> Option<usize>
+    ensures { result ≡ position (λ file. bytes_eq file.path path.now) files.now }
+{
+    files.iter().position(|file| file.path.as_str() == path)
+}
+
+/// The file of the program at the path.
+pub fn file_of<'a>(program: &'a Program, path: &str) -> Option<&'a ProgramFile>
+    ensures { MatchOption result (file_at (sources_of program.now) path.now ≡ None)
+        (λ file. Found (sources_of program.now) path.now (source_of file.now)) }
+{
+    let files = program.files.as_slice();
+    match place_of(files, path) {
+        Some(place) => Some(&files[place]),
+        None => None,
+    }
+}
+
+/// What a file of these `var` names begins with: the opening realm with its objects, and its
+/// environment.
+pub fn heap_of_file(alloc: Global, names: &[Name]) -> Result<(Heap, Env), Memory>
+    ensures heap { IfOk result (λ made. store_of made.0 ≡ opened_with names.now) }
+    ensures environment { IfOk result (λ made. made.1.index ≡ opened_environment) }
+{
+    let mut heap = realm(alloc)?;
+    let (exports, module) = make_objects(alloc, &mut heap)?;
+    let env = heap.env(Some(global_environment()))?;
+    declare(alloc, &mut heap, env, "exports", Value::Object(exports))?;
+    declare(alloc, &mut heap, env, "module", Value::Object(module))?;
+    declare_names(&mut heap, env, names)?;
+    Ok((heap, env))
+}
+
+/// Makes the objects `exports` and `module` of a file.
+fn make_objects(alloc: Global, heap: &mut Heap) -> Result<(Object, Object), Memory>
+    requires { store_of heap.old ≡ the_realm }
+    ensures made { OnOk result (store_of heap.new ≡ file_objects the_realm) }
+    ensures exports { IfOk result (λ made. made.0.index ≡ next_object the_realm) }
+    ensures module_object { IfOk result (λ made. made.1.index ≡ next_object the_realm + 1) }
+{
+    let exports = heap.object(ObjectKind::Plain, Some(object_prototype()))?;
+    let module = heap.object(ObjectKind::Plain, Some(object_prototype()))?;
+    let flags = Flags {
+        enumerable: true,
+        writable: true,
+    };
+    let key = ascii(alloc, b"exports")?;
+    heap.define(module, &key, Value::Object(exports), flags)?;
+    Ok((exports, module))
+}
+
+/// Declares a name of the environment that may be assigned to.
+fn declare(alloc: Global, heap: &mut Heap, env: Env, name: &str, value: Value) -> Result<(), Memory>
+    requires { HoldsEnvironment (store_of heap.old) env.index }
+    ensures { OnOk result (store_of heap.new ≡ declared env.index (variable name.now value) (store_of heap.old)) }
+{
+    heap.declare(env, &Name::from_str(alloc, name)?, Some(value), false)?;
+    Ok(())
+}
+
+/// Declares names of the environment, each with the value undefined.
+fn declare_names(heap: &mut Heap, env: Env, names: &[Name]) -> Result<(), Memory>
+    requires { HoldsEnvironment (store_of heap.old) env.index }
+    ensures { OnOk result (store_of heap.new ≡ declare_all env.index (variables names.now) (store_of heap.old)) }
+{
+    for name in names {
+        heap.declare(
+            env,
+            name,
+            Some(Value::Primitive(Primitive::Undefined)),
+            false,
+        )?;
+    }
+    Ok(())
+}
+
+/// The tree of the host's prelude: the empty file so far.
+pub fn prelude(alloc: Global) -> Result<Checked, Memory>
+    ensures { IfOk result (λ checked. plain_file checked ≡ MakeFile no_stmt []) }
+{
+    let file = File {
+        body: Items::new(alloc),
+        comments: Items::new(alloc),
+    };
+    match check(alloc, file) {
+        Ok(checked) => Ok(checked),
+        Err((_, ScopeFault { at: _, kind })) => match kind {
+            ScopeFaultKind::Reserved => unreachable!(),
+            ScopeFaultKind::Memory => Err(AllocError),
+        },
+    }
+}

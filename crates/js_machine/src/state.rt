@@ -1,0 +1,14 @@
+ghost use Rattle.js_heap.specs.Heap.{store_of};
+ghost use Rattle.js_machine.specs.Errors.{HoldsErrors};
+
+use js_heap::Heap;
+
+/// Everything that a program can change.
+#[derive(Drop)]
+pub struct State {
+    /// Its objects and environments.
+    pub heap: Heap,
+    /// What it printed.
+    pub output: Vec<u8>,
+    ghost errors: { HoldsErrors (store_of heap) },
+}
