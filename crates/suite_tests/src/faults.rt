@@ -68,6 +68,14 @@ fn faults_of_the_store_and_of_the_output_are_statuses(rt: HostRuntime) -> Result
         Status::ReadFault,
         "Read failed: a.js\n",
     )?;
+    expect_fault(
+        &rt,
+        alloc,
+        &["exec", "a.js"],
+        reading,
+        Status::ReadFault,
+        "Read failed: a.js\n",
+    )?;
     let writing = Faults {
         out: Some(1),
         ..NONE

@@ -1,6 +1,17 @@
 // Programs that are run: the status, what they print, and the line that is said.
+ghost use Rattle.std.specs.Prelude.{◌≡◌, IfOk};
+ghost use Rattle.std.specs.Option.{ForSome};
+
 use crate::call::{Answer, Source, expect};
+use crate::tokens::text_of;
+use cov_base::Memory;
+use cov_run::start;
 use cov_tool::Status;
+use js_machine::Machine;
+use js_meaning::{End, language};
+use js_parser::parse;
+use js_scopes::check;
+use js_text::{Limits, Text};
 use std::alloc::Global;
 use std::process::Abort;
 use std::test::Fail;
@@ -129,5 +140,33 @@ fn values_are_printed(rt: HostRuntime) -> Result<(), Fail> {
         };
         expect_run(&rt, alloc, "1000", text, wanted)?;
     }
+    Ok(())
+}
+
+/// A machine before the source text, that was given no step yet.
+fn machine(alloc: Global, text: &Text) -> Result<Option<Machine>, Memory>
+    ensures { IfOk result (λ made. ForSome made (λ machine. machine.given ≡ 0)) }
+{
+    language();
+    let Ok(file) = parse(alloc, text, Limits::source()) else {
+        return Ok(None);
+    };
+    match check(alloc, file) {
+        Ok(checked) => Ok(Some(start(alloc, "a.js", checked)?)),
+        Err(_) => Ok(None),
+    }
+}
+
+#[test]
+fn a_run_goes_on_from_where_it_stopped(rt: HostRuntime) -> Result<(), Fail> {
+    let alloc = rt.alloc();
+    let text = text_of(alloc, THREE_TURNS)?;
+    let mut machine = machine(alloc, &text)?.expect(&rt, "the source is read");
+    assert!(rt; matches!(machine.run(2)?, End::Going));
+    assert_eq!(rt; machine.output(), b"0\n".as_slice());
+    assert!(rt; matches!(machine.run(4)?, End::Done));
+    assert_eq!(rt; machine.output(), b"0\n1\n2\n".as_slice());
+    assert!(rt; matches!(machine.run(7)?, End::Done));
+    assert_eq!(rt; machine.given(), 13);
     Ok(())
 }
