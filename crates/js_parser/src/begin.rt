@@ -46,12 +46,17 @@ fn begin_word(
 }
 
 /// A `}` where a statement may begin.
-fn close_block(stack: &mut Stack, kind: TokenKind<'_>, loc: Loc) -> Result<Turn, Refusal>
+fn close_block(
+    alloc: Global,
+    stack: &mut Stack,
+    kind: TokenKind<'_>,
+    loc: Loc,
+) -> Result<Turn, Refusal>
     ensures { Turns result (view.frames stack.new) (machine.close_block (view.frames stack.old) loc) (kind_of kind.entry) loc 0 }
 {
     match stack.pop() {
         Some(Frame::InBlock(opening, statements)) => Ok(Turn::To(Mode::After(make::block(
-            opening, statements, loc,
+            alloc, opening, statements, loc,
         )?))),
         Some(frame) => {
             discard(frame);
@@ -97,8 +102,8 @@ fn begin_punctuator(
             ))?;
             Ok(Turn::To(Mode::Begin))
         }
-        Punctuator::CloseBrace => close_block(stack, kind, loc),
-        Punctuator::Semicolon => Ok(Turn::To(Mode::After(make::empty(loc)))),
+        Punctuator::CloseBrace => close_block(alloc, stack, kind, loc),
+        Punctuator::Semicolon => Ok(Turn::To(Mode::After(make::empty(alloc, loc)?))),
         Punctuator::OpenParenthesis => {
             stack.push(Frame::InExpression)?;
             stack.push(Frame::InParentheses(loc))?;

@@ -98,7 +98,7 @@ pub(crate) fn close_initializer(
     let declared = make::longer_initialized(alloc, declared, name, place, part)?;
     match kind {
         TokenKind::Punctuator(Punctuator::Semicolon) => Ok(Turn::To(Mode::After(make::variables(
-            word, declared, loc,
+            alloc, word, declared, loc,
         )?))),
         TokenKind::Punctuator(Punctuator::Comma) => Ok(Turn::To(Mode::WantName(word, declared))),
         _ => Err(Refusal::Syntax),

@@ -69,6 +69,7 @@ fn name_class(
 
 /// A token after a name to be declared.
 pub(crate) fn have_name(
+    alloc: Global,
     stack: &mut Stack,
     word: Loc,
     declared: Declared,
@@ -81,7 +82,7 @@ pub(crate) fn have_name(
 {
     match kind {
         TokenKind::Punctuator(punctuator) => have_name_punctuator(
-            stack, word, declared, name, place, punctuator, kind, loc,
+            alloc, stack, word, declared, name, place, punctuator, kind, loc,
         ),
         _ => Err(Refusal::Syntax),
     }
@@ -89,6 +90,7 @@ pub(crate) fn have_name(
 
 /// A punctuator after a name to be declared.
 fn have_name_punctuator(
+    alloc: Global,
     stack: &mut Stack,
     word: Loc,
     declared: Declared,
@@ -111,7 +113,7 @@ fn have_name_punctuator(
         ))),
         Punctuator::Semicolon => {
             let declared = make::longer_plain(declared, name, place)?;
-            Ok(Turn::To(Mode::After(make::variables(word, declared, loc)?)))
+            Ok(Turn::To(Mode::After(make::variables(alloc, word, declared, loc)?)))
         }
         _ => Err(Refusal::Syntax),
     }

@@ -31,7 +31,7 @@ fn shift(
 ) -> Result<Turn, Refusal>
     ensures { Turns result (view.frames stack.new) (machine.shift (view.joining by) (plain_expr part.tree) part.loc (view.frames stack.old) loc) (kind_of kind.entry) loc 0 }
 {
-    if wants(by) > level(&part.tree) {
+    if wants(by) > level(part.tree.get()) {
         return Err(Refusal::Syntax);
     }
     match by {
@@ -48,7 +48,7 @@ fn shift(
             Ok(Turn::To(Mode::Want))
         }
         Join::ByAssignment => {
-            if is_target(&part.tree) {
+            if is_target(part.tree.get()) {
                 stack.push(Frame::InAssignment(part))?;
                 Ok(Turn::To(Mode::Want))
             } else {

@@ -31,11 +31,12 @@ pub(crate) fn reference(alloc: Global, word: &str, loc: Loc) -> Result<Part, Mem
     ensures { Makes result (P.IdentifierReference (Some loc) word.now) loc }
 {
     let name = Text::from_str(alloc, word)?;
+    let tree = Expr {
+        loc: Some(loc),
+        node: ExprNode::IdentifierReference(name),
+    };
     Ok(Part {
-        tree: Expr {
-            loc: Some(loc),
-            node: ExprNode::IdentifierReference(name),
-        },
+        tree: Boxed::new(alloc, tree)?,
         loc,
         height: 1,
     })
@@ -43,34 +44,34 @@ pub(crate) fn reference(alloc: Global, word: &str, loc: Loc) -> Result<Part, Mem
 
 /// `null`.
 #[tactic(auto, using(js_tree::proofs::Equations::tree_rules))]
-pub(crate) fn null(loc: Loc) -> Part
-    ensures tree { plain_expr result.tree ≡ P.NullLiteral (Some loc) }
-    ensures loc { result.loc ≡ loc }
+pub(crate) fn null(alloc: Global, loc: Loc) -> Result<Part, Memory>
+    ensures { Makes result (P.NullLiteral (Some loc)) loc }
 {
-    Part {
-        tree: Expr {
-            loc: Some(loc),
-            node: ExprNode::NullLiteral,
-        },
+    let tree = Expr {
+        loc: Some(loc),
+        node: ExprNode::NullLiteral,
+    };
+    Ok(Part {
+        tree: Boxed::new(alloc, tree)?,
         loc,
         height: 1,
-    }
+    })
 }
 
 /// `true` or `false`.
 #[tactic(auto, using(js_tree::proofs::Equations::tree_rules))]
-pub(crate) fn boolean(value: bool, loc: Loc) -> Part
-    ensures tree { plain_expr result.tree ≡ P.BooleanLiteral (Some loc) value }
-    ensures loc { result.loc ≡ loc }
+pub(crate) fn boolean(alloc: Global, value: bool, loc: Loc) -> Result<Part, Memory>
+    ensures { Makes result (P.BooleanLiteral (Some loc) value) loc }
 {
-    Part {
-        tree: Expr {
-            loc: Some(loc),
-            node: ExprNode::BooleanLiteral(value),
-        },
+    let tree = Expr {
+        loc: Some(loc),
+        node: ExprNode::BooleanLiteral(value),
+    };
+    Ok(Part {
+        tree: Boxed::new(alloc, tree)?,
         loc,
         height: 1,
-    }
+    })
 }
 
 /// A number.
@@ -79,11 +80,12 @@ pub(crate) fn number(alloc: Global, digits: &str, loc: Loc) -> Result<Part, Memo
     ensures { Makes result (P.NumericLiteral (Some loc) digits.now) loc }
 {
     let digits = Text::from_str(alloc, digits)?;
+    let tree = Expr {
+        loc: Some(loc),
+        node: ExprNode::NumericLiteral(digits),
+    };
     Ok(Part {
-        tree: Expr {
-            loc: Some(loc),
-            node: ExprNode::NumericLiteral(digits),
-        },
+        tree: Boxed::new(alloc, tree)?,
         loc,
         height: 1,
     })
@@ -98,11 +100,12 @@ pub(crate) fn string(alloc: Global, spelling: &str, loc: Loc) -> Result<Part, Me
         spelling: Text::from_str(alloc, spelling)?,
         units: units_of(alloc, spelling)?,
     };
+    let tree = Expr {
+        loc: Some(loc),
+        node: ExprNode::StringLiteral(string),
+    };
     Ok(Part {
-        tree: Expr {
-            loc: Some(loc),
-            node: ExprNode::StringLiteral(string),
-        },
+        tree: Boxed::new(alloc, tree)?,
         loc,
         height: 1,
     })
@@ -122,8 +125,9 @@ pub(crate) fn parentheses(
     let height = above(inner.height)?;
     let tree = Expr {
         loc: Some(loc),
-        node: ExprNode::Parenthesized(Boxed::new(alloc, inner.tree)?),
+        node: ExprNode::Parenthesized(inner.tree),
     };
+    let tree = Boxed::new(alloc, tree)?;
     Ok(Part { tree, loc, height })
 }
 
@@ -141,8 +145,9 @@ pub(crate) fn call(
     let height = above(callee.height.max(arguments.height))?;
     let tree = Expr {
         loc: Some(loc),
-        node: ExprNode::Call(Boxed::new(alloc, callee.tree)?, arguments.items),
+        node: ExprNode::Call(callee.tree, arguments.items),
     };
+    let tree = Boxed::new(alloc, tree)?;
     Ok(Part { tree, loc, height })
 }
 
@@ -158,12 +163,13 @@ pub(crate) fn binary(
 {
     let loc = through(left.loc, right.loc);
     let height = above(left.height.max(right.height))?;
-    let left = Boxed::new(alloc, left.tree)?;
-    let right = Boxed::new(alloc, right.tree)?;
+    let left = left.tree;
+    let right = right.tree;
     let tree = Expr {
         loc: Some(loc),
         node: ExprNode::Binary(operator, left, right),
     };
+    let tree = Boxed::new(alloc, tree)?;
     Ok(Part { tree, loc, height })
 }
 
@@ -174,12 +180,13 @@ pub(crate) fn assignment(alloc: Global, target: Part, value: Part) -> Result<Par
 {
     let loc = through(target.loc, value.loc);
     let height = above(target.height.max(value.height))?;
-    let target = Boxed::new(alloc, target.tree)?;
-    let value = Boxed::new(alloc, value.tree)?;
+    let target = target.tree;
+    let value = value.tree;
     let tree = Expr {
         loc: Some(loc),
         node: ExprNode::Assignment(AssignmentOperator::Assign, target, value),
     };
+    let tree = Boxed::new(alloc, tree)?;
     Ok(Part { tree, loc, height })
 }
 
@@ -190,29 +197,34 @@ pub(crate) fn longer(arguments: Arguments, argument: Part) -> Result<Arguments, 
 {
     let height = arguments.height.max(argument.height);
     let mut items = arguments.items;
-    items.push(argument.tree)?;
+    items.push(argument.tree.into_inner())?;
     Ok(Arguments { items, height })
 }
 
 /// A `;` alone.
 #[tactic(auto, using(js_tree::proofs::Equations::tree_rules))]
-pub(crate) fn empty(loc: Loc) -> Piece
-    ensures tree { plain_stmt result.tree ≡ P.Empty (Some loc) }
-    ensures loc { result.loc ≡ loc }
+pub(crate) fn empty(alloc: Global, loc: Loc) -> Result<Piece, Memory>
+    ensures { MakesPiece result (P.Empty (Some loc)) loc }
 {
-    Piece {
-        tree: Stmt {
-            loc: Some(loc),
-            node: StmtNode::Empty,
-        },
+    let tree = Stmt {
+        loc: Some(loc),
+        node: StmtNode::Empty,
+    };
+    Ok(Piece {
+        tree: Boxed::new(alloc, tree)?,
         loc,
         height: 1,
-    }
+    })
 }
 
 /// A block, whose braces stand at these places.
 #[tactic(auto, using(js_tree::proofs::Equations::tree_rules))]
-pub(crate) fn block(opening: Loc, statements: Pieces, closing: Loc) -> Result<Piece, Memory>
+pub(crate) fn block(
+    alloc: Global,
+    opening: Loc,
+    statements: Pieces,
+    closing: Loc,
+) -> Result<Piece, Memory>
     ensures { MakesPiece result (P.Block (Some (grammar.through opening closing)) (plain_stmts statements.items)) (grammar.through opening closing) }
 {
     let loc = through(opening, closing);
@@ -221,12 +233,18 @@ pub(crate) fn block(opening: Loc, statements: Pieces, closing: Loc) -> Result<Pi
         loc: Some(loc),
         node: StmtNode::Block(statements.items),
     };
+    let tree = Boxed::new(alloc, tree)?;
     Ok(Piece { tree, loc, height })
 }
 
 /// A declaration by `var`, from the word up to its `;`.
 #[tactic(auto, using(js_tree::proofs::Equations::tree_rules))]
-pub(crate) fn variables(word: Loc, declared: Declared, closing: Loc) -> Result<Piece, Memory>
+pub(crate) fn variables(
+    alloc: Global,
+    word: Loc,
+    declared: Declared,
+    closing: Loc,
+) -> Result<Piece, Memory>
     ensures { MakesPiece result (P.VariableDeclaration (Some (grammar.through word closing)) variable.Var (plain_declarators declared.items)) (grammar.through word closing) }
 {
     let loc = through(word, closing);
@@ -235,6 +253,7 @@ pub(crate) fn variables(word: Loc, declared: Declared, closing: Loc) -> Result<P
         loc: Some(loc),
         node: StmtNode::VariableDeclaration(VariableKind::Var, declared.items),
     };
+    let tree = Boxed::new(alloc, tree)?;
     Ok(Piece { tree, loc, height })
 }
 
@@ -246,8 +265,9 @@ pub(crate) fn expression(alloc: Global, inner: Part, loc: Loc) -> Result<Piece, 
     let height = above(inner.height)?;
     let tree = Stmt {
         loc: Some(loc),
-        node: StmtNode::Expression(Boxed::new(alloc, inner.tree)?),
+        node: StmtNode::Expression(inner.tree),
     };
+    let tree = Boxed::new(alloc, tree)?;
     Ok(Piece { tree, loc, height })
 }
 
@@ -258,12 +278,13 @@ pub(crate) fn while_loop(alloc: Global, word: Loc, test: Part, body: Piece) -> R
 {
     let loc = through(word, body.loc);
     let height = above(test.height.max(body.height))?;
-    let test = Boxed::new(alloc, test.tree)?;
-    let body = Boxed::new(alloc, body.tree)?;
+    let test = test.tree;
+    let body = body.tree;
     let tree = Stmt {
         loc: Some(loc),
         node: StmtNode::While(test, body),
     };
+    let tree = Boxed::new(alloc, tree)?;
     Ok(Piece { tree, loc, height })
 }
 
@@ -274,12 +295,13 @@ pub(crate) fn if_only(alloc: Global, word: Loc, test: Part, then: Piece) -> Resu
 {
     let loc = through(word, then.loc);
     let height = above(test.height.max(then.height))?;
-    let test = Boxed::new(alloc, test.tree)?;
-    let then = Boxed::new(alloc, then.tree)?;
+    let test = test.tree;
+    let then = then.tree;
     let tree = Stmt {
         loc: Some(loc),
         node: StmtNode::If(test, then, None),
     };
+    let tree = Boxed::new(alloc, tree)?;
     Ok(Piece { tree, loc, height })
 }
 
@@ -296,30 +318,31 @@ pub(crate) fn if_else(
 {
     let loc = through(word, other.loc);
     let height = above(test.height.max(then.height.max(other.height)))?;
-    let test = Boxed::new(alloc, test.tree)?;
-    let then = Boxed::new(alloc, then.tree)?;
-    let other = Boxed::new(alloc, other.tree)?;
+    let test = test.tree;
+    let then = then.tree;
+    let other = other.tree;
     let tree = Stmt {
         loc: Some(loc),
         node: StmtNode::If(test, then, Some(other)),
     };
+    let tree = Boxed::new(alloc, tree)?;
     Ok(Piece { tree, loc, height })
 }
 
 /// A directive: a string, up to its `;`.
 #[tactic(auto, using(js_tree::proofs::Equations::tree_rules))]
-pub(crate) fn directive(string: Spelled, loc: Loc) -> Piece
-    ensures tree { plain_stmt result.tree ≡ P.Directive (Some loc) string }
-    ensures loc { result.loc ≡ loc }
+pub(crate) fn directive(alloc: Global, string: Spelled, loc: Loc) -> Result<Piece, Memory>
+    ensures { MakesPiece result (P.Directive (Some loc) string) loc }
 {
-    Piece {
-        tree: Stmt {
-            loc: Some(loc),
-            node: StmtNode::Directive(string),
-        },
+    let tree = Stmt {
+        loc: Some(loc),
+        node: StmtNode::Directive(string),
+    };
+    Ok(Piece {
+        tree: Boxed::new(alloc, tree)?,
         loc,
         height: 2,
-    }
+    })
 }
 
 /// One more statement.
@@ -328,9 +351,9 @@ pub(crate) fn longer_body(statements: Pieces, statement: Piece) -> Result<Pieces
     ensures { MakesPieces result (P.push_stmts (plain_stmts statements.items) (plain_stmt statement.tree)) }
 {
     let height = statements.height.max(statement.height);
-    let directives = statements.directives && is_directive(&statement.tree);
+    let directives = statements.directives && is_directive(statement.tree.get());
     let mut items = statements.items;
-    items.push(statement.tree)?;
+    items.push(statement.tree.into_inner())?;
     Ok(Pieces {
         items,
         height,
@@ -380,7 +403,7 @@ pub(crate) fn longer_initialized(
 {
     let loc = through(place, value.loc);
     let height = declared.height.max(above(value.height.max(1))?);
-    let value = Boxed::new(alloc, value.tree)?;
+    let value = value.tree;
     let mut items = declared.items;
     items.push(Declarator {
         loc: Some(loc),

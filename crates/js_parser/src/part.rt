@@ -1,13 +1,13 @@
 ghost use Rattle.std.specs.Prelude.{◌≡◌};
 ghost use Rattle.js_parser.specs.Part.{expr_height, exprs_height, stmt_height, stmts_height, declarators_height, all_directives};
 
-use items::Items;
+use items::{Boxed, Items};
 use js_tree::{Declarator, Expr, Loc, Stmt};
 
-/// An expression that is read, its place, and its height.
+/// An expression that is read, in the box in which a node around it holds it; its place, and its height.
 #[derive(Drop)]
 pub(crate) struct Part {
-    pub(crate) tree: Expr,
+    pub(crate) tree: Boxed<Expr>,
     pub(crate) loc: Loc,
     pub(crate) height: u64,
     ghost exact: { height ≡ expr_height tree },
@@ -29,10 +29,10 @@ pub(crate) struct Declared {
     ghost exact: { height ≡ declarators_height items },
 }
 
-/// A statement that is read, its place, and its height.
+/// A statement that is read, in such a box; its place, and its height.
 #[derive(Drop)]
 pub(crate) struct Piece {
-    pub(crate) tree: Stmt,
+    pub(crate) tree: Boxed<Stmt>,
     pub(crate) loc: Loc,
     pub(crate) height: u64,
     ghost exact: { height ≡ stmt_height tree },

@@ -9,7 +9,7 @@ use crate::frame::Frame;
 use crate::make;
 use crate::part::{Part, Piece};
 use crate::stack::Stack;
-use items::Memory;
+use items::{Boxed, Memory};
 use js_tree::{Expr, ExprNode, Loc, Spelled};
 use std::alloc::Global;
 
@@ -34,12 +34,12 @@ pub(crate) fn in_prologue(stack: &mut Stack) -> Result<bool, Memory>
 
 /// The string that an expression is, or else the expression.
 #[tactic(auto, using(js_tree::proofs::Equations::tree_rules))]
-fn into_string(expression: Expr) -> Result<Spelled, Expr>
+fn into_string(expression: Boxed<Expr>) -> Result<Spelled, Expr>
     ensures string { IfOk result (λ string. plain_expr expression ≡ P.StringLiteral expression.loc string) }
     ensures same { IfErr result (λ other. other ≡ expression) }
     ensures other { OnErr result (machine.is_string (plain_expr expression) ≡ false) }
 {
-    let (loc, node) = expression.into_parts();
+    let (loc, node) = expression.into_inner().into_parts();
     match node {
         ExprNode::StringLiteral(string) => Ok(string),
         node => Err(Expr { loc, node }),
@@ -65,10 +65,10 @@ pub(crate) fn statement(
         height,
     } = part;
     match into_string(tree) {
-        Ok(string) => Ok(make::directive(string, loc)),
+        Ok(string) => make::directive(alloc, string, loc),
         Err(tree) => {
             let part = Part {
-                tree,
+                tree: Boxed::new(alloc, tree)?,
                 loc: place,
                 height,
             };

@@ -53,7 +53,7 @@ fn take_turn(
         Mode::WantOpen(test, word) => want_open(stack, test, word, kind, loc),
         Mode::WantName(word, declared) => want_name(alloc, stack, word, declared, kind, loc),
         Mode::HaveName(word, declared, name, place) => have_name(
-            stack, word, declared, name, place, kind, loc,
+            alloc, stack, word, declared, name, place, kind, loc,
         ),
         Mode::Finished(_) => Err(Refusal::Syntax),
     }

@@ -21,9 +21,9 @@ fn operand(alloc: Global, class: WordClass, word: &str, loc: Loc) -> Result<Opti
     ensures { IfOk result (λ found. IsOperand found (machine.word_operand (plain_class class) word.now loc) loc) }
 {
     match class {
-        WordClass::Null => Ok(Some(make::null(loc))),
-        WordClass::True => Ok(Some(make::boolean(true, loc))),
-        WordClass::False => Ok(Some(make::boolean(false, loc))),
+        WordClass::Null => Ok(Some(make::null(alloc, loc)?)),
+        WordClass::True => Ok(Some(make::boolean(alloc, true, loc)?)),
+        WordClass::False => Ok(Some(make::boolean(alloc, false, loc)?)),
         WordClass::Name => Ok(Some(make::reference(alloc, word, loc)?)),
         _ => Ok(None),
     }

@@ -2,21 +2,11 @@
 #![tactic(auto)]
 
 #[cfg(test)]
-mod call;
-#[cfg(test)]
-mod faults;
-#[cfg(test)]
 mod host;
 #[cfg(test)]
-mod maps;
-#[cfg(test)]
-mod names;
-#[cfg(test)]
-mod printed;
+mod limits;
 #[cfg(test)]
 mod reader;
-#[cfg(test)]
-mod refusals;
 #[cfg(test)]
 mod runs;
 #[cfg(test)]

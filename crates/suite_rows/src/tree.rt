@@ -1,13 +1,19 @@
-// The shape of a tree of the small language, as the tables write it: `(+ a b)` and the like.
-use items::Memory;
-use js_tree::{BinaryOperator, Declarator, Expr, ExprNode, PatternNode, Stmt, StmtNode};
+// The shape of a tree, as the rows write it: `(+ a b)` and the like.
+use crate::place::read;
+use cov_base::Memory;
+use js_tree::{BinaryOperator, Declarator, Expr, ExprNode, File, PatternNode, Stmt, StmtNode};
 use std::alloc::Global;
 
-/// The shapes of these statements, each in braces of its kind.
-pub(crate) fn shape_of(alloc: Global, statements: &[Stmt]) -> Result<String, Memory> {
-    let mut out = String::new(alloc);
-    print_statements(statements, &mut out)?;
-    Ok(out)
+/// The shape of the tree that the text is read to, or where and why it is refused.
+pub(crate) fn tree_of(alloc: Global, bytes: Vec<u8>) -> Result<String, Memory> {
+    match read(alloc, bytes)? {
+        Ok(File { body, comments: _ }) => {
+            let mut out = String::new(alloc);
+            print_statements(body.as_slice(), &mut out)?;
+            Ok(out)
+        }
+        Err(refused) => Ok(refused),
+    }
 }
 
 #[cycle(statements)]

@@ -1,0 +1,28 @@
+//! The tables of rows: files of commands, each with the answer that is wanted beneath it. Prints of each file
+//! that is named that it is as written, or all of it with the answers that were found.
+#![tactic(auto)]
+
+mod call;
+mod names;
+mod place;
+mod script;
+mod spelled;
+mod tokens;
+mod tree;
+
+use script::answered;
+use std::{env, fs, io};
+
+fn main(rt: HostRuntime) -> io::Result<()> {
+    let words = env::args(&rt).map_err(|_| io::Error::from(io::ErrorKind::InvalidInput))?;
+    for path in words.skip(1) {
+        let written = fs::read_to_string(&rt, path.as_str())?;
+        let found = answered(rt.alloc(), written.as_str())?;
+        if found.as_str() == written.as_str() {
+            println!(rt; "{path}: as written")?;
+        } else {
+            println!(rt; "{path}: not as written, but\n{found}")?;
+        }
+    }
+    Ok(())
+}
