@@ -6,6 +6,7 @@ mod call;
 mod names;
 mod place;
 mod script;
+mod shape;
 mod spelled;
 mod tokens;
 mod tree;

@@ -8,10 +8,13 @@
 //     tokens TEXT      the text's tokens
 //     tree TEXT        the tree that the text is read to
 //     names TEXT       the names that the text writes, and what it asks for
+//     height TEXT      the height of the tree that the text is read to
+//     same TEXT <> TEXT   whether the two are read to the same but for places and parentheses
 //
 // Texts, paths and words are in percent encoding, and so is what is printed and said.
 use crate::call::Setting;
 use crate::names::names_of;
+use crate::shape::{height_of, same_of};
 use crate::spelled::bytes_of;
 use crate::tokens::tokens_of;
 use crate::tree::tree_of;
@@ -64,11 +67,15 @@ fn perform(
 
 /// What a library answers to a text.
 fn answer(alloc: Global, word: &str, text: &str) -> Result<String, Memory> {
+    if word == "same" {
+        return same_of(alloc, text);
+    }
     let bytes = bytes_of(alloc, text)?;
     match word {
         "tokens" => tokens_of(alloc, bytes),
         "tree" => tree_of(alloc, bytes),
         "names" => names_of(alloc, bytes),
+        "height" => height_of(alloc, bytes),
         _ => String::from_str(alloc, "no such command"),
     }
 }

@@ -2,6 +2,8 @@
 #![tactic(auto)]
 
 #[cfg(test)]
+mod comments;
+#[cfg(test)]
 mod host;
 #[cfg(test)]
 mod limits;
@@ -9,8 +11,6 @@ mod limits;
 mod reader;
 #[cfg(test)]
 mod runs;
-#[cfg(test)]
-mod shapes;
 #[cfg(test)]
 mod sinks;
 #[cfg(test)]

@@ -1,0 +1,39 @@
+// How high the tree of a text is, and which texts are read to the same.
+use crate::place::read;
+use crate::spelled::bytes_of;
+use cov_base::Memory;
+use js_height::height;
+use js_same::same;
+use js_tree::File;
+use std::alloc::Global;
+
+/// The height of the tree that the text is read to, or where and why it is refused.
+pub(crate) fn height_of(alloc: Global, bytes: Vec<u8>) -> Result<String, Memory> {
+    match read(alloc, bytes)? {
+        Ok(file) => {
+            let levels = height(&file);
+            format!(in alloc; "{levels}")
+        }
+        Err(refused) => Ok(refused),
+    }
+}
+
+/// Whether two texts with ` <> ` between them are read to the same, each compared with the other.
+pub(crate) fn same_of(alloc: Global, pair: &str) -> Result<String, Memory> {
+    let (one, other) = pair.split_once(" <> ").unwrap_or((pair, ""));
+    let one = read(alloc, bytes_of(alloc, one)?)?;
+    let other = read(alloc, bytes_of(alloc, other)?)?;
+    let answer = match (&one, &other) {
+        (Ok(one), Ok(other)) => compared(one, other),
+        _ => "not read",
+    };
+    String::from_str(alloc, answer)
+}
+
+fn compared(one: &File, other: &File) -> &'static str {
+    match (same(one, other), same(other, one)) {
+        (true, true) => "the same",
+        (false, false) => "apart",
+        _ => "the same one way alone",
+    }
+}
