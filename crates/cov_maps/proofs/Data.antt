@@ -12,7 +12,7 @@ use Rattle.cov_object.specs.declared.file.FunctionCoverage.{FunctionCoverage}
 use Rattle.cov_object.specs.declared.file.PathCoverage.{PathCoverage}
 use Rattle.cov_object.specs.declared.file.BranchCoverage.{BranchCoverage}
 use Rattle.cov_object.specs.declared.file.FileCoverage.{FileCoverage}
-use Rattle.js_tree.specs.Constructs.{Construct}
+use Rattle.js_tree.specs.declared.construct.Construct.{Construct}
 use Rattle.cov_maps.specs.Zero.{PartCount, FunctionCount, place_of, part_of, statement_of, path_of, function_of, branch_of, place_data, part_data, function_count_data, branch_count_data, path_count_data, counts_data, zero_statements, zero_functions, zero_branches, zero_data}
 
 -- what is said of each element is said of what each is sent to

@@ -1,9 +1,12 @@
 -- The constructs of a tree that was read stand at lines from 1.
-use Rattle.std.proofs.Common.{◌≡◌, ℕ, ◌<◌, List, [], ◌∷◌, ◌++◌, Option, Some, None, refl, sym, subst, arith}
+use Rattle.std.proofs.Common.{◌≡◌, ℕ, ◌+◌, ◌<◌, List, [], ◌∷◌, ◌++◌, Option, Some, None, false, refl, sym, subst, arith}
 use Rattle.std.specs.Option.{option_map}
 use Rattle.js_tree.specs.declared.place.Loc.{Loc}
 use Rattle.js_tree.specs.Plain.{Expr, Exprs, Stmt, Stmts, Declarator, Declarators, File}
-use Rattle.js_tree.specs.Constructs.{Construct, bare_place, stmt_place, counted, constructs_expr, constructs_exprs, constructs_stmt, constructs_stmts, constructs_declarator, constructs_declarators, constructs_file}
+use Rattle.js_tree.specs.declared.construct.Construct.{Construct}
+use Rattle.js_tree.specs.declared.construct.Construct.TheVariants as construct
+use Rattle.js_walk.specs.Constructs.{bare_place, stmt_place, counted, own_construct, chained_in, constructs_expr, constructs_stmt, constructs_declarator, constructs_file, named, number_after, all_named}
+use Rattle.js_walk.specs.Walk.{within_exprs, within_declarators, within_stmts, walk_file}
 use Rattle.js_text.specs.Place.{Place}
 use Rattle.js_text.specs.Position.{position_of}
 use Rattle.js_text.specs.Token.{Goal, Kind, Token}
@@ -12,6 +15,16 @@ use Rattle.js_text.specs.Grammar
 use Rattle.js_text.specs.Grammar.{through, SpellsExpr, reference, null_literal, true_literal, false_literal, number, string, parentheses, call, operation, assigns, SpellsArguments, no_argument, last_argument, more_arguments, SpellsDeclarator, plain, initialized, SpellsDeclarators, one, more, SpellsStmt, block, var, empty, expression, if_only, if_else, SpellsStmts, no_statement, more_statements, SpellsBody, directive, statements, Sentence, file}
 use Rattle.js_text.specs.Reads.{goal_of, Lexes, no_token, one_more, Reads}
 use Rattle.cov_maps.specs.Placed.{IsPlaced, IsPlacedIf, ArePlaced}
+
+-- what is in lists of nodes
+abbrev constructs_exprs : Exprs → List Construct
+constructs_exprs xs = within_exprs own_construct chained_in xs false
+
+abbrev constructs_declarators : Declarators → List Construct
+constructs_declarators ds = within_declarators own_construct chained_in ds false
+
+abbrev constructs_stmts : Stmts → List Construct
+constructs_stmts ss = within_stmts own_construct chained_in ss false
 
 abbrev AreTokensPlaced : List Token → Type 0
 AreTokensPlaced [] = Unit {0}
@@ -54,6 +67,9 @@ placed_both (x ∷ xs) ys h k = (h.0, placed_both xs ys h.1 k)
 
 -- ---- expressions: none of this language holds a construct
 
+both_none : {xs ys : List Construct} → xs ≡ [] → ys ≡ [] → xs ++ ys ≡ []
+both_none {xs = xs} {ys = ys} e f = subst (λ z. z ++ ys ≡ []) (sym e) f
+
 mutual
   expr_none : {e : Expr} {l : Loc} {te : List Token} → SpellsExpr e l te → constructs_expr e ≡ []
   expr_none (reference is free) = refl
@@ -63,14 +79,14 @@ mutual
   expr_none (number is) = refl
   expr_none (string is) = refl
   expr_none (parentheses opening closing is_opening is_closing d) = expr_none d
-  expr_none (call opening closing is_opening is_closing high d ds) = let a = expr_none d in let b = arguments_none ds in cc
-  expr_none (operation sign is_o is_sign high low da db) = let a = expr_none da in let b = expr_none db in cc
-  expr_none (assigns sign is_sign is_x high dx de) = let a = expr_none dx in let b = expr_none de in cc
+  expr_none (call opening closing is_opening is_closing high d ds) = both_none (expr_none d) (arguments_none ds)
+  expr_none (operation sign is_o is_sign high low da db) = both_none (expr_none da) (expr_none db)
+  expr_none (assigns sign is_sign is_x high dx de) = both_none (expr_none dx) (expr_none de)
 
   arguments_none : {xs : Exprs} {ts : List Token} → SpellsArguments xs ts → constructs_exprs xs ≡ []
   arguments_none no_argument = refl
-  arguments_none (last_argument high d) = let a = expr_none d in cc
-  arguments_none (more_arguments comma is high d ds) = let a = expr_none d in let b = arguments_none ds in cc
+  arguments_none (last_argument high d) = both_none (expr_none d) refl
+  arguments_none (more_arguments comma is high d ds) = both_none (expr_none d) (arguments_none ds)
 
 expr_placed : {e : Expr} {l : Loc} {te : List Token} → SpellsExpr e l te → AreTokensPlaced te → IsPlaced l
 expr_placed (reference is free) h = h.0
@@ -170,9 +186,16 @@ body_placed : {ss : Stmts} {ts : List Token} {next : Token} → SpellsBody ss ts
 body_placed (directive t semicolon is is_semicolon d) h = body_placed d h.1.1
 body_placed (statements is_plain ds) h = stmts_placed ds h
 
-sentence_placed : {tree : File} {tokens : List Token} → Sentence tree tokens → AreTokensPlaced tokens → ArePlaced (constructs_file tree)
+sentence_placed : {tree : File} {tokens : List Token} → Sentence tree tokens → AreTokensPlaced tokens → ArePlaced (walk_file own_construct chained_in tree false)
 sentence_placed (file {ts = ts} end is d) h = body_placed d (tokens_left ts _ h)
+
+-- a name moves nothing
+named_placed : (before : ℕ) (xs : List Construct) → ArePlaced xs → ArePlaced (all_named before xs)
+named_placed before [] h = tt
+named_placed before (construct.Statement loc ∷ xs) h = (h.0, named_placed before xs h.1)
+named_placed before (construct.Function name declared body ∷ xs) h = (h.0, named_placed (before + 1) xs h.1)
+named_placed before (construct.Branch kind loc paths ∷ xs) h = (h.0, named_placed before xs h.1)
 
 -- the tree of a text
 pub reads_placed : {text : List ℕ} {tree : File} → Reads text tree → ArePlaced (constructs_file tree)
-reads_placed r = sentence_placed r.sentence (lexed_placed r.lexed)
+reads_placed {tree = tree} r = named_placed 0 (walk_file own_construct chained_in tree false) (sentence_placed r.sentence (lexed_placed r.lexed))

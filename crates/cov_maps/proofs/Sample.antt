@@ -8,7 +8,9 @@ use Rattle.js_tree.specs.declared.operators.VariableKind.TheVariants as variable
 use Rattle.js_tree.specs.declared.place.Loc.{Loc}
 use Rattle.js_tree.specs.declared.place.Pos.{Pos}
 use Rattle.js_tree.specs.Plain.{Expr, IdentifierReference, NumericLiteral, Call, no_expr, more_expr, VariableDeclaration, Expression, If, none_stmt, some_expr, no_stmt, more_stmt, MakeDeclarator, no_declarator, more_declarator, BindingIdentifier, File, MakeFile}
-use Rattle.js_tree.specs.Constructs.{IfBranch, Statement, Branch, constructs_file}
+use Rattle.js_tree.specs.declared.construct.BranchKind.TheVariants as branch_kind
+use Rattle.js_tree.specs.declared.construct.Construct.TheVariants as construct
+use Rattle.js_walk.specs.Constructs.{constructs_file}
 use Rattle.cov_maps.specs.Zero.{zero_data}
 
 abbrev on_line_1 : ℕ → Pos
@@ -30,7 +32,7 @@ tree = MakeFile
     no_stmt)) []
 
 -- what is counted in it
-pub counted_sample : constructs_file tree ≡ Statement (part 8 9) ∷ Statement (part 11 27) ∷ Branch IfBranch (part 11 27) (Some (part 11 27) ∷ None ∷ []) ∷ Statement (part 18 27) ∷ []
+pub counted_sample : constructs_file tree ≡ construct.Statement (part 8 9) ∷ construct.Statement (part 11 27) ∷ construct.Branch branch_kind.If (part 11 27) (Some (part 11 27) ∷ None ∷ []) ∷ construct.Statement (part 18 27) ∷ []
 counted_sample = refl
 
 -- its map, as it is written

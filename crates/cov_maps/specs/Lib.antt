@@ -1,3 +1,2 @@
-pub mod Construct
 pub mod Placed
 pub mod Zero

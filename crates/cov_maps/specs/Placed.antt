@@ -1,7 +1,8 @@
 -- Places in a text: each line counts from 1.
 use Rattle.std.specs.Prelude.{◌<◌, List, [], ◌∷◌, Option, Some, None}
 use Rattle.js_tree.specs.declared.place.Loc.{Loc}
-use Rattle.js_tree.specs.Constructs.{Construct, Statement, Function, Branch}
+use Rattle.js_tree.specs.declared.construct.Construct.{Construct}
+use Rattle.js_tree.specs.declared.construct.Construct.TheVariants as construct
 
 abbrev pub IsPlaced : Loc → Type 0
 IsPlaced loc = (0 < loc.start.line) × (0 < loc.end.line)
@@ -16,9 +17,9 @@ ArePathsPlaced [] = Unit {0}
 ArePathsPlaced (path ∷ paths) = IsPlacedIf path × ArePathsPlaced paths
 
 abbrev pub IsConstructPlaced : Construct → Type 0
-IsConstructPlaced (Statement loc) = IsPlaced loc
-IsConstructPlaced (Function _ decl loc) = IsPlaced decl × IsPlaced loc
-IsConstructPlaced (Branch _ loc paths) = IsPlaced loc × ArePathsPlaced paths
+IsConstructPlaced (construct.Statement loc) = IsPlaced loc
+IsConstructPlaced (construct.Function _ decl loc) = IsPlaced decl × IsPlaced loc
+IsConstructPlaced (construct.Branch _ loc paths) = IsPlaced loc × ArePathsPlaced paths
 
 -- all places of these constructs
 abbrev pub ArePlaced : List Construct → Type 0

@@ -2,7 +2,10 @@
 use Rattle.std.specs.Prelude.{ℕ, List, [], ◌∷◌, map, Option, Some, None, codes, string_bytes}
 use Rattle.std.specs.Option.{option_map}
 use Rattle.js_tree.specs.declared.place.Loc.{Loc}
-use Rattle.js_tree.specs.Constructs.{BranchKind, IfBranch, ConditionalBranch, SwitchBranch, LogicalBranch, DefaultBranch, Construct, Statement, Function, Branch}
+use Rattle.js_tree.specs.declared.construct.BranchKind.{BranchKind}
+use Rattle.js_tree.specs.declared.construct.BranchKind.TheVariants as branch_kind
+use Rattle.js_tree.specs.declared.construct.Construct.{Construct}
+use Rattle.js_tree.specs.declared.construct.Construct.TheVariants as construct
 use Rattle.serde_json.specs.Data.{Data, string, array, object, put}
 use Rattle.serde_json.specs.View.{items_of}
 use Rattle.cov_object.specs.Json.{by_key, object_of, numbered, count_data, column_data}
@@ -69,11 +72,11 @@ branch_of branch = record {
 
 -- how a kind of branch is spelled
 abbrev pub spelling_of : BranchKind → List ℕ
-spelling_of IfBranch = codes "if"
-spelling_of ConditionalBranch = codes "cond-expr"
-spelling_of SwitchBranch = codes "switch"
-spelling_of LogicalBranch = codes "binary-expr"
-spelling_of DefaultBranch = codes "default-arg"
+spelling_of branch_kind.If = codes "if"
+spelling_of branch_kind.Conditional = codes "cond-expr"
+spelling_of branch_kind.Switch = codes "switch"
+spelling_of branch_kind.Logical = codes "binary-expr"
+spelling_of branch_kind.Default = codes "default-arg"
 
 abbrev pub part_at : Loc → Part
 part_at loc = record { start = Some (loc.start.line, Some loc.start.column); end = Some (loc.end.line, Some loc.end.column) }
@@ -89,24 +92,24 @@ zero_path path = record { part = path_part path; count = 0 }
 -- the statements among the constructs
 abbrev pub zero_statements : List Construct → List PartCount
 zero_statements [] = []
-zero_statements (Statement loc ∷ rest) = record { part = part_at loc; count = 0 } ∷ zero_statements rest
-zero_statements (Function _ _ _ ∷ rest) = zero_statements rest
-zero_statements (Branch _ _ _ ∷ rest) = zero_statements rest
+zero_statements (construct.Statement loc ∷ rest) = record { part = part_at loc; count = 0 } ∷ zero_statements rest
+zero_statements (construct.Function _ _ _ ∷ rest) = zero_statements rest
+zero_statements (construct.Branch _ _ _ ∷ rest) = zero_statements rest
 
 -- the functions
 abbrev pub zero_functions : List Construct → List FunctionCount
 zero_functions [] = []
-zero_functions (Statement _ ∷ rest) = zero_functions rest
-zero_functions (Function name decl loc ∷ rest) =
+zero_functions (construct.Statement _ ∷ rest) = zero_functions rest
+zero_functions (construct.Function name decl loc ∷ rest) =
     record { name = name; declaration = part_at decl; location = part_at loc; count = 0 } ∷ zero_functions rest
-zero_functions (Branch _ _ _ ∷ rest) = zero_functions rest
+zero_functions (construct.Branch _ _ _ ∷ rest) = zero_functions rest
 
 -- the branches
 abbrev pub zero_branches : List Construct → List BranchCount
 zero_branches [] = []
-zero_branches (Statement _ ∷ rest) = zero_branches rest
-zero_branches (Function _ _ _ ∷ rest) = zero_branches rest
-zero_branches (Branch kind loc paths ∷ rest) =
+zero_branches (construct.Statement _ ∷ rest) = zero_branches rest
+zero_branches (construct.Function _ _ _ ∷ rest) = zero_branches rest
+zero_branches (construct.Branch kind loc paths ∷ rest) =
     record { kind = spelling_of kind; location = part_at loc; paths = map zero_path paths } ∷ zero_branches rest
 
 -- ---- its JSON

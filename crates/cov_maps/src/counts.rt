@@ -1,16 +1,16 @@
-ghost use Rattle.std.specs.Prelude.{◌≡◌, ◌++◌, IfOk};
-ghost use Rattle.cov_maps.specs.Construct.{plain_constructs};
-ghost use Rattle.js_tree.specs.Constructs.{bare_place, counted, counted_initializer, if_branch, stmt_if_place, stmt_place};
-ghost use Rattle.js_tree.specs.Tree.{plain_expr, plain_expr_if, plain_stmt, plain_stmt_if};
+ghost use Rattle.std.specs.Prelude.{◌≡◌, ◌++◌, false, IfOk};
+ghost use Rattle.js_tree.specs.Tree.{plain_concise_body, plain_expr_if, plain_param, plain_stmt_if};
+ghost use Rattle.js_walk.specs.Constructs.{branch, counted, counted_initializer, if_branch, own_construct};
+ghost use Rattle.js_walk.specs.Part.{AConciseBody, AParam};
 
-use crate::construct::{BranchKind, Construct};
+use crate::places::{place_of_arm, place_of_expr};
 use items::{Boxed, Items, Memory};
-use js_tree::{Expr, ExprNode, Loc, Stmt};
+use js_tree::{BranchKind, ConciseBody, Construct, Expr, Loc, Param, Stmt};
 use std::alloc::Global;
 
 // Counts a statement, where it has a place.
 pub(crate) fn count(loc: &Option<Loc>, out: &mut Items<Construct>) -> Result<(), Memory>
-    ensures { IfOk result (λ _. plain_constructs out.new ≡ plain_constructs out.old ++ counted loc.now) }
+    ensures { IfOk result (λ _. out.new ≡ out.old ++ counted loc.now) }
 {
     match loc {
         None => Ok(()),
@@ -24,7 +24,7 @@ pub(crate) fn count_initializer(
     initializer: &Option<Boxed<Expr>>,
     out: &mut Items<Construct>,
 ) -> Result<(), Memory>
-    ensures { IfOk result (λ _. plain_constructs out.new ≡ plain_constructs out.old ++ counted_initializer (plain_expr_if initializer.now)) }
+    ensures { IfOk result (λ _. out.new ≡ out.old ++ counted_initializer (plain_expr_if initializer.now)) }
 {
     match initializer {
         None => Ok(()),
@@ -32,56 +32,68 @@ pub(crate) fn count_initializer(
     }
 }
 
-// Counts the branch of an `if`, where it has a place.
-pub(crate) fn count_if_branch(
+// Counts the expression that is an arrow's body.
+#[tactic(auto, using(js_tree::proofs::Equations::tree_rules))]
+pub(crate) fn count_body(body: &ConciseBody, out: &mut Items<Construct>) -> Result<(), Memory>
+    ensures { IfOk result (λ _. out.new ≡ out.old ++ own_construct false (AConciseBody (plain_concise_body body.now))) }
+{
+    match body {
+        ConciseBody::ExpressionBody(value) => count(&place_of_expr(value), out),
+        ConciseBody::BlockBody(_) => Ok(()),
+    }
+}
+
+// Counts a branch, where it has a place.
+pub(crate) fn count_branch(
+    kind: BranchKind,
+    loc: &Option<Loc>,
+    paths: Items<Option<Loc>>,
+    out: &mut Items<Construct>,
+) -> Result<(), Memory>
+    ensures { IfOk result (λ _. out.new ≡ out.old ++ branch kind loc.now paths) }
+{
+    match loc {
+        None => Ok(()),
+        Some(loc) => out.push(Construct::Branch {
+            kind,
+            loc: *loc,
+            paths,
+        }),
+    }
+}
+
+// Counts an `if` and its branch, where it has a place.
+#[tactic(auto, using(js_tree::proofs::Equations::tree_rules))]
+pub(crate) fn count_if(
     alloc: Global,
     loc: &Option<Loc>,
     otherwise: &Option<Boxed<Stmt>>,
     out: &mut Items<Construct>,
 ) -> Result<(), Memory>
-    ensures { IfOk result (λ _. plain_constructs out.new ≡ plain_constructs out.old ++ if_branch loc.now (plain_stmt_if otherwise.now)) }
+    ensures { IfOk result (λ _. out.new ≡ out.old ++ (counted loc.now ++ if_branch loc.now (plain_stmt_if otherwise.now))) }
 {
-    match loc {
+    count(loc, out)?;
+    let mut paths = Items::new(alloc);
+    paths.push(*loc)?;
+    paths.push(place_of_arm(otherwise))?;
+    count_branch(BranchKind::If, loc, paths, out)
+}
+
+// Counts the default of a parameter.
+#[tactic(auto, using(js_tree::proofs::Equations::tree_rules))]
+pub(crate) fn count_default(
+    alloc: Global,
+    param: &Param,
+    out: &mut Items<Construct>,
+) -> Result<(), Memory>
+    ensures { IfOk result (λ _. out.new ≡ out.old ++ own_construct false (AParam (plain_param param.now))) }
+{
+    match &param.default {
         None => Ok(()),
-        Some(loc) => {
+        Some(default) => {
             let mut paths = Items::new(alloc);
-            paths.push(Some(*loc))?;
-            paths.push(place_of_arm(otherwise))?;
-            out.push(Construct::Branch {
-                kind: BranchKind::If,
-                loc: *loc,
-                paths,
-            })
+            paths.push(place_of_expr(default.get()))?;
+            count_branch(BranchKind::Default, &param.loc, paths, out)
         }
-    }
-}
-
-// Where the arm after an `else` stands, if there is one with a place.
-#[tactic(auto, using(js_tree::proofs::Equations::tree_rules))]
-fn place_of_arm(otherwise: &Option<Boxed<Stmt>>) -> Option<Loc>
-    ensures { result ≡ stmt_if_place (plain_stmt_if otherwise.now) }
-{
-    match otherwise {
-        None => None,
-        Some(stmt) => place_of_stmt(stmt.get()),
-    }
-}
-
-// Where a statement stands.
-#[tactic(auto, using(crate::proofs::NodePlaces::stmt_place_same))]
-fn place_of_stmt(stmt: &Stmt) -> Option<Loc>
-    ensures { result ≡ stmt_place (plain_stmt stmt.now) }
-{
-    stmt.loc
-}
-
-// Where an expression stands, without parentheses round it.
-#[tactic(auto, using(js_tree::proofs::Equations::tree_rules))]
-fn place_of_expr(expr: &Expr) -> Option<Loc>
-    ensures { result ≡ bare_place (plain_expr expr.now) }
-{
-    match &expr.node {
-        ExprNode::Parenthesized(inner) => place_of_expr(inner.get()),
-        _ => expr.loc,
     }
 }

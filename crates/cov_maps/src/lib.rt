@@ -1,11 +1,13 @@
 //! What coverage counts in a file, and the coverage of a file that hasn't run.
 #![tactic(auto)]
 
-mod construct;
+mod collect;
 mod counts;
-mod walk;
+mod functions;
+mod names;
+mod places;
 mod zeroed;
 
-pub use construct::{BranchKind, Construct};
-pub use walk::constructs;
+pub use collect::constructs;
+pub use js_tree::{BranchKind, Construct};
 pub use zeroed::zero;

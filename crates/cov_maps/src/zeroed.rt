@@ -1,15 +1,13 @@
 ghost use Rattle.std.specs.Prelude.{◌≡◌, map, Some, option_map, string_bytes, IfOk};
-ghost use Rattle.cov_maps.specs.Construct.{plain_construct, plain_constructs, plain_kind};
 ghost use Rattle.cov_maps.specs.Placed.{IsPlaced, IsPlacedIf, ArePathsPlaced, ArePlaced};
 ghost use Rattle.cov_maps.specs.Zero as spec;
 ghost use Rattle.cov_object.specs.Json.{file_data};
 
-use crate::construct::{BranchKind, Construct};
 use cov_object::{
     BranchCoverage, FileCoverage, FunctionCoverage, Location, PathCoverage, StatementCoverage,
 };
 use items::Memory;
-use js_tree::Loc;
+use js_tree::{BranchKind, Construct, Loc};
 use std::alloc::Global;
 
 /// The coverage of a file in which nothing has run: each construct of a list with the count 0, the
@@ -21,13 +19,13 @@ pub fn zero(
     hash: &str,
     list: &[Construct],
 ) -> Result<FileCoverage, Memory>
-    requires lines { ArePlaced (plain_constructs list.now) }
+    requires lines { ArePlaced list.now }
     ensures path { IfOk result (λ file. string_bytes file.path ≡ path.now) }
     ensures hash { IfOk result (λ file. option_map string_bytes file.hash ≡ Some hash.now) }
-    ensures statements { IfOk result (λ file. map spec.statement_of file.statements.items ≡ spec.zero_statements (plain_constructs list.now)) }
-    ensures functions { IfOk result (λ file. map spec.function_of file.functions.items ≡ spec.zero_functions (plain_constructs list.now)) }
-    ensures branches { IfOk result (λ file. map spec.branch_of file.branches.items ≡ spec.zero_branches (plain_constructs list.now)) }
-    ensures data { IfOk result (λ file. file_data file ≡ spec.zero_data path.now hash.now (plain_constructs list.now)) }
+    ensures statements { IfOk result (λ file. map spec.statement_of file.statements.items ≡ spec.zero_statements list.now) }
+    ensures functions { IfOk result (λ file. map spec.function_of file.functions.items ≡ spec.zero_functions list.now) }
+    ensures branches { IfOk result (λ file. map spec.branch_of file.branches.items ≡ spec.zero_branches list.now) }
+    ensures data { IfOk result (λ file. file_data file ≡ spec.zero_data path.now hash.now list.now) }
 {
     Ok(FileCoverage {
         path: String::from_str(alloc, path)?,
@@ -40,8 +38,8 @@ pub fn zero(
 
 // The statements in a list, with the count 0.
 fn statements_in(alloc: Global, list: &[Construct]) -> Result<Vec<StatementCoverage>, Memory>
-    requires { ArePlaced (plain_constructs list.now) }
-    ensures { IfOk result (λ statements. map spec.statement_of statements.items ≡ spec.zero_statements (plain_constructs list.now)) }
+    requires { ArePlaced list.now }
+    ensures { IfOk result (λ statements. map spec.statement_of statements.items ≡ spec.zero_statements list.now) }
 {
     let mut statements = Vec::new(alloc);
     for construct in list {
@@ -57,8 +55,8 @@ fn statements_in(alloc: Global, list: &[Construct]) -> Result<Vec<StatementCover
 
 // The functions in a list, with the count 0.
 fn functions_in(alloc: Global, list: &[Construct]) -> Result<Vec<FunctionCoverage>, Memory>
-    requires { ArePlaced (plain_constructs list.now) }
-    ensures { IfOk result (λ functions. map spec.function_of functions.items ≡ spec.zero_functions (plain_constructs list.now)) }
+    requires { ArePlaced list.now }
+    ensures { IfOk result (λ functions. map spec.function_of functions.items ≡ spec.zero_functions list.now) }
 {
     let mut functions = Vec::new(alloc);
     for construct in list {
@@ -76,8 +74,8 @@ fn functions_in(alloc: Global, list: &[Construct]) -> Result<Vec<FunctionCoverag
 
 // The branches in a list, each path with the count 0.
 fn branches_in(alloc: Global, list: &[Construct]) -> Result<Vec<BranchCoverage>, Memory>
-    requires { ArePlaced (plain_constructs list.now) }
-    ensures { IfOk result (λ branches. map spec.branch_of branches.items ≡ spec.zero_branches (plain_constructs list.now)) }
+    requires { ArePlaced list.now }
+    ensures { IfOk result (λ branches. map spec.branch_of branches.items ≡ spec.zero_branches list.now) }
 {
     let mut branches = Vec::new(alloc);
     for construct in list {
@@ -109,7 +107,7 @@ fn paths_of(alloc: Global, places: &[Option<Loc>]) -> Result<Vec<PathCoverage>, 
 
 // How a kind of branch is spelled in the JSON.
 fn spelling(kind: BranchKind) -> &'static str
-    ensures { result.now ≡ spec.spelling_of (plain_kind kind) }
+    ensures { result.now ≡ spec.spelling_of kind }
 {
     match kind {
         BranchKind::If => "if",

@@ -1,7 +1,8 @@
 -- The constructs of a text that was read stand somewhere.
 use Rattle.std.proofs.Common.{◌≡◌, ℕ, List, sym, subst}
 use Rattle.js_tree.specs.Plain.{File}
-use Rattle.js_tree.specs.Constructs.{Construct, constructs_file}
+use Rattle.js_tree.specs.declared.construct.Construct.{Construct}
+use Rattle.js_walk.specs.Constructs.{constructs_file}
 use Rattle.js_text.specs.Reads.{Reads}
 use Rattle.cov_maps.specs.Placed.{ArePlaced}
 use Rattle.cov_maps.proofs.Placed.{reads_placed}

@@ -7,7 +7,7 @@ use Rattle.serde_json.specs.Written.{compact_text}
 use Rattle.js_tree.specs.declared.place.Pos.{Pos}
 use Rattle.js_tree.specs.Plain.{File}
 use Rattle.js_tree.specs.Height.{height_file}
-use Rattle.js_tree.specs.Constructs.{constructs_file}
+use Rattle.js_walk.specs.Constructs.{constructs_file}
 use Rattle.js_text.specs.Limits.{source_limits}
 use Rattle.js_text.specs.Position.{position}
 use Rattle.js_text.specs.Reads.{Reads, NoTree, TooHigh}

@@ -14,10 +14,10 @@ use js_tree::{
 /// stands as 2^64 - 1.
 ///
 /// A name, a literal, `this`, an empty or `debugger` statement, `break`, `continue` and a bare
-/// `return` are 1 high. Every other statement, expression, pair of parentheses, case, property,
-/// declarator and parameter with a default is one more than its highest part, and 1 where it has
-/// none. A function is such a part once: as a declaration, an expression, an arrow or a method. It
-/// takes no memory.
+/// `return` are 1 high. Every other statement, expression, pair of parentheses, function, case,
+/// property, declarator and parameter with a default is one more than its highest part, and 1 where
+/// it has none. A declaration or an expression that is a function is so once; a method is a property
+/// and the function in it. It takes no memory.
 #[tactic(auto, using(crate::proofs::Held::height_rules, crate::proofs::Held::held_least))]
 pub fn height(file: &File) -> u64
     ensures { result ≡ min (height_file (plain_file file.now)) (2 ^ 64 - 1) }
@@ -60,7 +60,7 @@ fn of_expr(expr: &Expr) -> u64
         ExprNode::StringLiteral(_) => 1,
         ExprNode::ArrayLiteral(items) => above(of_exprs(items.as_slice())),
         ExprNode::ObjectLiteral(properties) => above(of_properties(properties.as_slice())),
-        ExprNode::FunctionExpression(_, function) => above(of_function(function.get())),
+        ExprNode::FunctionExpression(_, function) => of_function(function.get()),
         ExprNode::ArrowFunction(params, body) => above_two(
             of_params(params.as_slice()),
             of_concise_body(body.get()),
@@ -157,7 +157,7 @@ fn of_stmt(stmt: &Stmt) -> u64
             of_stmts(finally.as_slice()),
         ),
         StmtNode::Debugger => 1,
-        StmtNode::FunctionDeclaration(_, function) => above(of_function(function.get())),
+        StmtNode::FunctionDeclaration(_, function) => of_function(function.get()),
     }
 }
 
@@ -236,7 +236,7 @@ fn of_template_part(template_part: &TemplatePart) -> u64
 fn of_function(function: &Function) -> u64
     ensures { result ≡ held (height_function (plain_function function.now)) }
 {
-    of_params(function.params.as_slice()).max(of_function_body(&function.body))
+    above_two(of_params(function.params.as_slice()), of_function_body(&function.body))
 }
 
 #[cycle(height)]

@@ -1,16 +1,16 @@
 -- What the early rule on names refuses.
 use Rattle.std.specs.Prelude.{List, [], ◌∷◌, Option, Some, None, if◌then◌else◌}
-use Rattle.js_text.specs.Reserved.{is_reserved, is_among, strict_words}
 use Rattle.js_tree.specs.Plain.{File}
 use Rattle.js_tree.specs.declared.place.Pos.{Pos}
 use Rattle.js_scopes.specs.Mentions.{mentions_file}
+use Rattle.js_scopes.specs.Reserved.{is_reserved, is_strict}
 use Rattle.js_scopes.specs.declared.mention.Mention.{Mention}
 use Rattle.js_scopes.specs.declared.mention.Mention.TheVariants as mention
 
--- where a reserved word is bound or referred to, or a word that strict code reserves is a label
+-- where a name that may be none is bound or referred to, or a word that strict code reserves is a label
 abbrev pub reserved_at : Mention → Option Pos
 reserved_at (mention.Variable at name) = if is_reserved name then Some at else None
-reserved_at (mention.Label at name) = if is_among strict_words name then Some at else None
+reserved_at (mention.Label at name) = if is_strict name then Some at else None
 reserved_at (mention.Member _) = None
 reserved_at (mention.Required _) = None
 

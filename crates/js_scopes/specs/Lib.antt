@@ -3,3 +3,4 @@ pub mod Checks
 pub mod Mentions
 pub mod Names
 pub mod Required
+pub mod Reserved

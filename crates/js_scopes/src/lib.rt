@@ -5,6 +5,7 @@ mod mention;
 mod mentions;
 mod names;
 mod required;
+mod reserved;
 mod rules;
 
 pub use rules::{Checked, ScopeFault, ScopeFaultKind, check};

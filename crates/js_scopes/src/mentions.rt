@@ -1,24 +1,63 @@
 ghost use Rattle.std.specs.Prelude.{◌≡◌, ◌++◌, IfOk};
-ghost use Rattle.js_scopes.specs.Mentions.{asked, asked_expr, asked_first, is_require, label, label_if, member, own_name, own_name_if, start, variable, mentions_file, mentions_expr, mentions_stmt, mentions_property, mentions_property_key, mentions_concise_body, mentions_for_init, mentions_for_target, mentions_template_part, mentions_function, mentions_function_body, mentions_param, mentions_declarator, mentions_case, mentions_catch, mentions_pattern, mentions_pattern_if, mentions_expr_if, mentions_stmt_if, mentions_template_parts, mentions_properties, mentions_params, mentions_exprs, mentions_stmts, mentions_declarators, mentions_cases};
-ghost use Rattle.js_tree.specs.Tree.{plain_file, plain_expr, plain_stmt, plain_property, plain_property_key, plain_concise_body, plain_for_init, plain_for_target, plain_template_part, plain_function, plain_function_body, plain_param, plain_declarator, plain_case, plain_catch, plain_pattern, plain_pattern_if, plain_expr_if, plain_stmt_if, plain_template_parts, plain_properties, plain_params, plain_exprs, plain_stmts, plain_declarators, plain_cases};
+ghost use Rattle.js_scopes.specs.Mentions.{asked, asked_expr, asked_first, is_require, label, label_if, member, own_name, own_name_if, start, variable, own_mention, own_of_expr, own_of_stmt, nothing_told, mentions_file};
+ghost use Rattle.js_scopes.specs.declared.mention.Mention.{Mention};
+ghost use Rattle.js_tree.specs.Tree.{plain_file, plain_expr, plain_exprs, plain_stmt, plain_property, plain_property_key, plain_pattern};
+ghost use Rattle.js_walk.specs.Part.{AProperty, APropertyKey, APattern};
 
 use crate::mention::Mention;
-use items::{Boxed, Items, Memory, Text};
+use items::{Items, Memory, Text};
 use js_tree::{
-    Case, Catch, ConciseBody, Declarator, Expr, ExprNode, File, ForInit, ForTarget, Function,
-    FunctionBody, Identifier, Loc, Param, Pattern, PatternNode, Pos, Property, PropertyKey,
-    PropertyNode, Spelled, Stmt, StmtNode, TemplatePart,
+    Expr, ExprNode, File, Identifier, Loc, Pattern, PatternNode, Pos, Property, PropertyKey,
+    PropertyNode, Stmt, StmtNode,
 };
+use js_walk::{Part, Visitor, visit_file};
 use std::alloc::Global;
 
-/// The names that a file writes and the files that it asks for, in the order of its text.
-#[tactic(auto, using(js_tree::proofs::Equations::tree_rules))]
+// What a walk collects.
+#[derive(Drop)]
+struct Collector {
+    alloc: Global,
+    out: Items<Mention>,
+}
+
+/// The names that a file writes and the files that it asks for, a node's own before those in it.
 pub fn mentions_of(alloc: Global, file: &File) -> Result<Items<Mention>, Memory>
     ensures { IfOk result (λ found. found ≡ mentions_file (plain_file file.now)) }
 {
-    let mut out = Items::new(alloc);
-    of_stmts(alloc, file.body.as_slice(), &mut out)?;
-    Ok(out)
+    let mut collector = Collector {
+        alloc,
+        out: Items::new(alloc),
+    };
+    visit_file(&mut collector, &(), file)?;
+    Ok(collector.out)
+}
+
+impl Visitor for Collector {
+    type Inherited = ();
+
+    ghost Found = { Mention };
+
+    ghost Told = { Unit {0} };
+
+    ghost told = { λ _. tt };
+
+    ghost own = { own_mention };
+
+    ghost down = { nothing_told };
+
+    ghost found = { λ collector. collector.out };
+
+    fn visit(&mut self, _inherited: &(), part: Part<'_>) -> Result<Option<()>, Memory> {
+        match part {
+            Part::Expr(expr) => of_expr(self.alloc, expr, &mut self.out)?,
+            Part::Stmt(stmt) => of_stmt(self.alloc, stmt, &mut self.out)?,
+            Part::Property(property) => of_property(self.alloc, property, &mut self.out)?,
+            Part::PropertyKey(key) => of_property_key(self.alloc, key, &mut self.out)?,
+            Part::Pattern(pattern) => of_pattern(self.alloc, pattern, &mut self.out)?,
+            _ => (),
+        }
+        Ok(Some(()))
+    }
 }
 
 /// Where a node starts.
@@ -198,444 +237,102 @@ fn of_asked(
     }
 }
 
-#[cycle(mentions)]
 #[tactic(auto, using(js_tree::proofs::Equations::tree_rules))]
 fn of_expr(alloc: Global, expr: &Expr, out: &mut Items<Mention>) -> Result<(), Memory>
-    ensures { IfOk result (λ _. out.new ≡ out.old ++ mentions_expr (plain_expr expr.now)) }
+    ensures { IfOk result (λ _. out.new ≡ out.old ++ own_of_expr (plain_expr expr.now)) }
 {
     match &expr.node {
         ExprNode::IdentifierReference(name) => of_variable(alloc, &expr.loc, name, out),
-        ExprNode::This => Ok(()),
-        ExprNode::NullLiteral => Ok(()),
-        ExprNode::BooleanLiteral(_) => Ok(()),
-        ExprNode::NumericLiteral(_) => Ok(()),
-        ExprNode::StringLiteral(_) => Ok(()),
-        ExprNode::ArrayLiteral(items) => of_exprs(alloc, items.as_slice(), out),
-        ExprNode::ObjectLiteral(properties) => of_properties(alloc, properties.as_slice(), out),
-        ExprNode::FunctionExpression(name, function) => {
-            of_own_name_if(alloc, name, out)?;
-            of_function(alloc, function.get(), out)
-        }
-        ExprNode::ArrowFunction(params, body) => {
-            of_params(alloc, params.as_slice(), out)?;
-            of_concise_body(alloc, body.get(), out)
-        }
-        ExprNode::RegularExpressionLiteral(_, _) => Ok(()),
-        ExprNode::TemplateLiteral(_, parts) => of_template_parts(alloc, parts.as_slice(), out),
-        ExprNode::Parenthesized(inner) => of_expr(alloc, inner.get(), out),
-        ExprNode::NamedMember(object, name) => {
-            of_expr(alloc, object.get(), out)?;
-            of_member(alloc, name, out)
-        }
-        ExprNode::ComputedMember(object, key) => {
-            of_expr(alloc, object.get(), out)?;
-            of_expr(alloc, key.get(), out)
-        }
-        ExprNode::New(constructor, arguments) => {
-            of_expr(alloc, constructor.get(), out)?;
-            of_exprs(alloc, arguments.as_slice(), out)
-        }
-        ExprNode::Call(callee, arguments) => {
-            of_expr(alloc, callee.get(), out)?;
-            of_asked(alloc, callee.get(), arguments.as_slice(), out)?;
-            of_exprs(alloc, arguments.as_slice(), out)
-        }
-        ExprNode::PostfixUpdate(_, operand) => of_expr(alloc, operand.get(), out),
-        ExprNode::PrefixUpdate(_, operand) => of_expr(alloc, operand.get(), out),
-        ExprNode::Unary(_, operand) => of_expr(alloc, operand.get(), out),
-        ExprNode::Binary(_, left, right) => {
-            of_expr(alloc, left.get(), out)?;
-            of_expr(alloc, right.get(), out)
-        }
-        ExprNode::Logical(_, left, right) => {
-            of_expr(alloc, left.get(), out)?;
-            of_expr(alloc, right.get(), out)
-        }
-        ExprNode::Conditional(test, then, otherwise) => {
-            of_expr(alloc, test.get(), out)?;
-            of_expr(alloc, then.get(), out)?;
-            of_expr(alloc, otherwise.get(), out)
-        }
-        ExprNode::Assignment(_, target, value) => {
-            of_expr(alloc, target.get(), out)?;
-            of_expr(alloc, value.get(), out)
-        }
-        ExprNode::Comma(left, right) => {
-            of_expr(alloc, left.get(), out)?;
-            of_expr(alloc, right.get(), out)
-        }
-    }
-}
-
-#[cycle(mentions)]
-#[tactic(auto, using(js_tree::proofs::Equations::tree_rules))]
-fn of_stmt(alloc: Global, stmt: &Stmt, out: &mut Items<Mention>) -> Result<(), Memory>
-    ensures { IfOk result (λ _. out.new ≡ out.old ++ mentions_stmt (plain_stmt stmt.now)) }
-{
-    match &stmt.node {
-        StmtNode::Directive(_) => Ok(()),
-        StmtNode::Block(statements) => of_stmts(alloc, statements.as_slice(), out),
-        StmtNode::VariableDeclaration(_, declarators) => of_declarators(
+        ExprNode::FunctionExpression(name, _) => of_own_name_if(alloc, name, out),
+        ExprNode::NamedMember(_, name) => of_member(alloc, name, out),
+        ExprNode::Call(callee, arguments) => of_asked(
             alloc,
-            declarators.as_slice(),
+            callee.get(),
+            arguments.as_slice(),
             out,
         ),
-        StmtNode::Empty => Ok(()),
-        StmtNode::Expression(expression) => of_expr(alloc, expression.get(), out),
-        StmtNode::If(test, then, otherwise) => {
-            of_expr(alloc, test.get(), out)?;
-            of_stmt(alloc, then.get(), out)?;
-            of_stmt_if(alloc, otherwise, out)
-        }
-        StmtNode::DoWhile(body, test) => {
-            of_stmt(alloc, body.get(), out)?;
-            of_expr(alloc, test.get(), out)
-        }
-        StmtNode::While(test, body) => {
-            of_expr(alloc, test.get(), out)?;
-            of_stmt(alloc, body.get(), out)
-        }
-        StmtNode::For(init, test, update, body) => {
-            of_for_init(alloc, init.get(), out)?;
-            of_expr_if(alloc, test, out)?;
-            of_expr_if(alloc, update, out)?;
-            of_stmt(alloc, body.get(), out)
-        }
-        StmtNode::ForIn(target, object, body) => {
-            of_for_target(alloc, target.get(), out)?;
-            of_expr(alloc, object.get(), out)?;
-            of_stmt(alloc, body.get(), out)
-        }
-        StmtNode::ForOf(target, iterable, body) => {
-            of_for_target(alloc, target.get(), out)?;
-            of_expr(alloc, iterable.get(), out)?;
-            of_stmt(alloc, body.get(), out)
-        }
-        StmtNode::Continue(target) => of_label_if(alloc, target, out),
-        StmtNode::Break(target) => of_label_if(alloc, target, out),
-        StmtNode::Return(value) => of_expr_if(alloc, value, out),
-        StmtNode::Switch(value, cases) => {
-            of_expr(alloc, value.get(), out)?;
-            of_cases(alloc, cases.as_slice(), out)
-        }
-        StmtNode::Labelled(name, body) => {
-            of_label(alloc, name, out)?;
-            of_stmt(alloc, body.get(), out)
-        }
-        StmtNode::Throw(value) => of_expr(alloc, value.get(), out),
-        StmtNode::TryCatch(block, catch) => {
-            of_stmts(alloc, block.as_slice(), out)?;
-            of_catch(alloc, catch.get(), out)
-        }
-        StmtNode::TryFinally(block, finally) => {
-            of_stmts(alloc, block.as_slice(), out)?;
-            of_stmts(alloc, finally.as_slice(), out)
-        }
-        StmtNode::TryCatchFinally(block, catch, finally) => {
-            of_stmts(alloc, block.as_slice(), out)?;
-            of_catch(alloc, catch.get(), out)?;
-            of_stmts(alloc, finally.as_slice(), out)
-        }
-        StmtNode::Debugger => Ok(()),
-        StmtNode::FunctionDeclaration(name, function) => {
-            of_own_name(alloc, name, out)?;
-            of_function(alloc, function.get(), out)
-        }
+        ExprNode::This
+        | ExprNode::NullLiteral
+        | ExprNode::BooleanLiteral(_)
+        | ExprNode::NumericLiteral(_)
+        | ExprNode::StringLiteral(_)
+        | ExprNode::ArrayLiteral(_)
+        | ExprNode::ObjectLiteral(_)
+        | ExprNode::ArrowFunction(_, _)
+        | ExprNode::RegularExpressionLiteral(_, _)
+        | ExprNode::TemplateLiteral(_, _)
+        | ExprNode::Parenthesized(_)
+        | ExprNode::ComputedMember(_, _)
+        | ExprNode::New(_, _)
+        | ExprNode::PostfixUpdate(_, _)
+        | ExprNode::PrefixUpdate(_, _)
+        | ExprNode::Unary(_, _)
+        | ExprNode::Binary(_, _, _)
+        | ExprNode::Logical(_, _, _)
+        | ExprNode::Conditional(_, _, _)
+        | ExprNode::Assignment(_, _, _)
+        | ExprNode::Comma(_, _) => Ok(()),
     }
 }
 
-#[cycle(mentions)]
+#[tactic(auto, using(js_tree::proofs::Equations::tree_rules))]
+fn of_stmt(alloc: Global, stmt: &Stmt, out: &mut Items<Mention>) -> Result<(), Memory>
+    ensures { IfOk result (λ _. out.new ≡ out.old ++ own_of_stmt (plain_stmt stmt.now)) }
+{
+    match &stmt.node {
+        StmtNode::Continue(target) => of_label_if(alloc, target, out),
+        StmtNode::Break(target) => of_label_if(alloc, target, out),
+        StmtNode::Labelled(name, _) => of_label(alloc, name, out),
+        StmtNode::FunctionDeclaration(name, _) => of_own_name(alloc, name, out),
+        StmtNode::Directive(_)
+        | StmtNode::Block(_)
+        | StmtNode::VariableDeclaration(_, _)
+        | StmtNode::Empty
+        | StmtNode::Expression(_)
+        | StmtNode::If(_, _, _)
+        | StmtNode::DoWhile(_, _)
+        | StmtNode::While(_, _)
+        | StmtNode::For(_, _, _, _)
+        | StmtNode::ForIn(_, _, _)
+        | StmtNode::ForOf(_, _, _)
+        | StmtNode::Return(_)
+        | StmtNode::Switch(_, _)
+        | StmtNode::Throw(_)
+        | StmtNode::TryCatch(_, _)
+        | StmtNode::TryFinally(_, _)
+        | StmtNode::TryCatchFinally(_, _, _)
+        | StmtNode::Debugger => Ok(()),
+    }
+}
+
 #[tactic(auto, using(js_tree::proofs::Equations::tree_rules))]
 fn of_property(alloc: Global, property: &Property, out: &mut Items<Mention>) -> Result<(), Memory>
-    ensures { IfOk result (λ _. out.new ≡ out.old ++ mentions_property (plain_property property.now)) }
+    ensures { IfOk result (λ _. out.new ≡ out.old ++ own_mention tt (AProperty (plain_property property.now))) }
 {
     match &property.node {
         PropertyNode::Shorthand(name) => of_variable(alloc, &property.loc, name, out),
-        PropertyNode::KeyValue(key, value) => {
-            of_property_key(alloc, key, out)?;
-            of_expr(alloc, value.get(), out)
-        }
-        PropertyNode::Method(key, function) => {
-            of_property_key(alloc, key, out)?;
-            of_function(alloc, function.get(), out)
-        }
+        PropertyNode::KeyValue(_, _) => Ok(()),
+        PropertyNode::Method(_, _) => Ok(()),
     }
 }
 
-#[cycle(mentions)]
 #[tactic(auto, using(js_tree::proofs::Equations::tree_rules))]
-fn of_property_key(
-    alloc: Global,
-    property_key: &PropertyKey,
-    out: &mut Items<Mention>,
-) -> Result<(), Memory>
-    ensures { IfOk result (λ _. out.new ≡ out.old ++ mentions_property_key (plain_property_key property_key.now)) }
+fn of_property_key(alloc: Global, key: &PropertyKey, out: &mut Items<Mention>) -> Result<(), Memory>
+    ensures { IfOk result (λ _. out.new ≡ out.old ++ own_mention tt (APropertyKey (plain_property_key key.now))) }
 {
-    match property_key {
+    match key {
         PropertyKey::NameKey(name) => of_member(alloc, name, out),
         PropertyKey::StringKey(_) => Ok(()),
         PropertyKey::NumberKey(_) => Ok(()),
-        PropertyKey::ComputedKey(key) => of_expr(alloc, key.get(), out),
+        PropertyKey::ComputedKey(_) => Ok(()),
     }
-}
-
-#[cycle(mentions)]
-#[tactic(auto, using(js_tree::proofs::Equations::tree_rules))]
-fn of_concise_body(
-    alloc: Global,
-    concise_body: &ConciseBody,
-    out: &mut Items<Mention>,
-) -> Result<(), Memory>
-    ensures { IfOk result (λ _. out.new ≡ out.old ++ mentions_concise_body (plain_concise_body concise_body.now)) }
-{
-    match concise_body {
-        ConciseBody::ExpressionBody(value) => of_expr(alloc, value, out),
-        ConciseBody::BlockBody(body) => of_function_body(alloc, body, out),
-    }
-}
-
-#[cycle(mentions)]
-#[tactic(auto, using(js_tree::proofs::Equations::tree_rules))]
-fn of_for_init(alloc: Global, for_init: &ForInit, out: &mut Items<Mention>) -> Result<(), Memory>
-    ensures { IfOk result (λ _. out.new ≡ out.old ++ mentions_for_init (plain_for_init for_init.now)) }
-{
-    match for_init {
-        ForInit::NoInit => Ok(()),
-        ForInit::InitDeclaration(_, declarators) => of_declarators(
-            alloc,
-            declarators.as_slice(),
-            out,
-        ),
-        ForInit::InitExpression(expression) => of_expr(alloc, expression.get(), out),
-    }
-}
-
-#[cycle(mentions)]
-#[tactic(auto, using(js_tree::proofs::Equations::tree_rules))]
-fn of_for_target(
-    alloc: Global,
-    for_target: &ForTarget,
-    out: &mut Items<Mention>,
-) -> Result<(), Memory>
-    ensures { IfOk result (λ _. out.new ≡ out.old ++ mentions_for_target (plain_for_target for_target.now)) }
-{
-    match for_target {
-        ForTarget::TargetDeclaration(_, pattern) => of_pattern(alloc, pattern, out),
-        ForTarget::TargetExpression(target) => of_expr(alloc, target.get(), out),
-    }
-}
-
-#[cycle(mentions)]
-#[tactic(auto, using(js_tree::proofs::Equations::tree_rules))]
-fn of_template_part(
-    alloc: Global,
-    template_part: &TemplatePart,
-    out: &mut Items<Mention>,
-) -> Result<(), Memory>
-    ensures { IfOk result (λ _. out.new ≡ out.old ++ mentions_template_part (plain_template_part template_part.now)) }
-{
-    of_expr(alloc, &template_part.value, out)
-}
-
-#[cycle(mentions)]
-#[tactic(auto, using(js_tree::proofs::Equations::tree_rules))]
-fn of_function(alloc: Global, function: &Function, out: &mut Items<Mention>) -> Result<(), Memory>
-    ensures { IfOk result (λ _. out.new ≡ out.old ++ mentions_function (plain_function function.now)) }
-{
-    of_params(alloc, function.params.as_slice(), out)?;
-    of_function_body(alloc, &function.body, out)
-}
-
-#[cycle(mentions)]
-#[tactic(auto, using(js_tree::proofs::Equations::tree_rules))]
-fn of_function_body(
-    alloc: Global,
-    function_body: &FunctionBody,
-    out: &mut Items<Mention>,
-) -> Result<(), Memory>
-    ensures { IfOk result (λ _. out.new ≡ out.old ++ mentions_function_body (plain_function_body function_body.now)) }
-{
-    of_stmts(alloc, function_body.statements.as_slice(), out)
-}
-
-#[cycle(mentions)]
-#[tactic(auto, using(js_tree::proofs::Equations::tree_rules))]
-fn of_param(alloc: Global, param: &Param, out: &mut Items<Mention>) -> Result<(), Memory>
-    ensures { IfOk result (λ _. out.new ≡ out.old ++ mentions_param (plain_param param.now)) }
-{
-    of_pattern(alloc, &param.pattern, out)?;
-    of_expr_if(alloc, &param.default, out)
-}
-
-#[cycle(mentions)]
-#[tactic(auto, using(js_tree::proofs::Equations::tree_rules))]
-fn of_declarator(
-    alloc: Global,
-    declarator: &Declarator,
-    out: &mut Items<Mention>,
-) -> Result<(), Memory>
-    ensures { IfOk result (λ _. out.new ≡ out.old ++ mentions_declarator (plain_declarator declarator.now)) }
-{
-    of_pattern(alloc, &declarator.pattern, out)?;
-    of_expr_if(alloc, &declarator.initializer, out)
-}
-
-#[cycle(mentions)]
-#[tactic(auto, using(js_tree::proofs::Equations::tree_rules))]
-fn of_case(alloc: Global, case: &Case, out: &mut Items<Mention>) -> Result<(), Memory>
-    ensures { IfOk result (λ _. out.new ≡ out.old ++ mentions_case (plain_case case.now)) }
-{
-    of_expr_if(alloc, &case.test, out)?;
-    of_stmts(alloc, case.statements.as_slice(), out)
-}
-
-#[cycle(mentions)]
-#[tactic(auto, using(js_tree::proofs::Equations::tree_rules))]
-fn of_catch(alloc: Global, catch: &Catch, out: &mut Items<Mention>) -> Result<(), Memory>
-    ensures { IfOk result (λ _. out.new ≡ out.old ++ mentions_catch (plain_catch catch.now)) }
-{
-    of_pattern_if(alloc, &catch.parameter, out)?;
-    of_stmts(alloc, catch.statements.as_slice(), out)
 }
 
 #[tactic(auto, using(js_tree::proofs::Equations::tree_rules))]
 fn of_pattern(alloc: Global, pattern: &Pattern, out: &mut Items<Mention>) -> Result<(), Memory>
-    ensures { IfOk result (λ _. out.new ≡ out.old ++ mentions_pattern (plain_pattern pattern.now)) }
+    ensures { IfOk result (λ _. out.new ≡ out.old ++ own_mention tt (APattern (plain_pattern pattern.now))) }
 {
     match &pattern.node {
         PatternNode::BindingIdentifier(name) => of_variable(alloc, &pattern.loc, name, out),
     }
-}
-
-#[tactic(auto, using(js_tree::proofs::Equations::tree_rules))]
-fn of_pattern_if(
-    alloc: Global,
-    pattern_if: &Option<Pattern>,
-    out: &mut Items<Mention>,
-) -> Result<(), Memory>
-    ensures { IfOk result (λ _. out.new ≡ out.old ++ mentions_pattern_if (plain_pattern_if pattern_if.now)) }
-{
-    match pattern_if {
-        None => Ok(()),
-        Some(pattern) => of_pattern(alloc, pattern, out),
-    }
-}
-
-#[cycle(mentions)]
-#[tactic(auto, using(js_tree::proofs::Equations::tree_rules))]
-fn of_expr_if(
-    alloc: Global,
-    expr_if: &Option<Boxed<Expr>>,
-    out: &mut Items<Mention>,
-) -> Result<(), Memory>
-    ensures { IfOk result (λ _. out.new ≡ out.old ++ mentions_expr_if (plain_expr_if expr_if.now)) }
-{
-    match expr_if {
-        None => Ok(()),
-        Some(expr) => of_expr(alloc, expr.get(), out),
-    }
-}
-
-#[cycle(mentions)]
-#[tactic(auto, using(js_tree::proofs::Equations::tree_rules))]
-fn of_stmt_if(
-    alloc: Global,
-    stmt_if: &Option<Boxed<Stmt>>,
-    out: &mut Items<Mention>,
-) -> Result<(), Memory>
-    ensures { IfOk result (λ _. out.new ≡ out.old ++ mentions_stmt_if (plain_stmt_if stmt_if.now)) }
-{
-    match stmt_if {
-        None => Ok(()),
-        Some(stmt) => of_stmt(alloc, stmt.get(), out),
-    }
-}
-
-#[cycle(mentions)]
-#[tactic(auto, using(js_tree::proofs::Equations::tree_rules))]
-fn of_template_parts(
-    alloc: Global,
-    template_parts: &[TemplatePart],
-    out: &mut Items<Mention>,
-) -> Result<(), Memory>
-    ensures { IfOk result (λ _. out.new ≡ out.old ++ mentions_template_parts (plain_template_parts template_parts.now)) }
-{
-    for template_part in template_parts {
-        of_template_part(alloc, template_part, out)?;
-    }
-    Ok(())
-}
-
-#[cycle(mentions)]
-#[tactic(auto, using(js_tree::proofs::Equations::tree_rules))]
-fn of_properties(
-    alloc: Global,
-    properties: &[Property],
-    out: &mut Items<Mention>,
-) -> Result<(), Memory>
-    ensures { IfOk result (λ _. out.new ≡ out.old ++ mentions_properties (plain_properties properties.now)) }
-{
-    for property in properties {
-        of_property(alloc, property, out)?;
-    }
-    Ok(())
-}
-
-#[cycle(mentions)]
-#[tactic(auto, using(js_tree::proofs::Equations::tree_rules))]
-fn of_params(alloc: Global, params: &[Param], out: &mut Items<Mention>) -> Result<(), Memory>
-    ensures { IfOk result (λ _. out.new ≡ out.old ++ mentions_params (plain_params params.now)) }
-{
-    for param in params {
-        of_param(alloc, param, out)?;
-    }
-    Ok(())
-}
-
-#[cycle(mentions)]
-#[tactic(auto, using(js_tree::proofs::Equations::tree_rules))]
-fn of_exprs(alloc: Global, exprs: &[Expr], out: &mut Items<Mention>) -> Result<(), Memory>
-    ensures { IfOk result (λ _. out.new ≡ out.old ++ mentions_exprs (plain_exprs exprs.now)) }
-{
-    for expr in exprs {
-        of_expr(alloc, expr, out)?;
-    }
-    Ok(())
-}
-
-#[cycle(mentions)]
-#[tactic(auto, using(js_tree::proofs::Equations::tree_rules))]
-fn of_stmts(alloc: Global, stmts: &[Stmt], out: &mut Items<Mention>) -> Result<(), Memory>
-    ensures { IfOk result (λ _. out.new ≡ out.old ++ mentions_stmts (plain_stmts stmts.now)) }
-{
-    for stmt in stmts {
-        of_stmt(alloc, stmt, out)?;
-    }
-    Ok(())
-}
-
-#[cycle(mentions)]
-#[tactic(auto, using(js_tree::proofs::Equations::tree_rules))]
-fn of_declarators(
-    alloc: Global,
-    declarators: &[Declarator],
-    out: &mut Items<Mention>,
-) -> Result<(), Memory>
-    ensures { IfOk result (λ _. out.new ≡ out.old ++ mentions_declarators (plain_declarators declarators.now)) }
-{
-    for declarator in declarators {
-        of_declarator(alloc, declarator, out)?;
-    }
-    Ok(())
-}
-
-#[cycle(mentions)]
-#[tactic(auto, using(js_tree::proofs::Equations::tree_rules))]
-fn of_cases(alloc: Global, cases: &[Case], out: &mut Items<Mention>) -> Result<(), Memory>
-    ensures { IfOk result (λ _. out.new ≡ out.old ++ mentions_cases (plain_cases cases.now)) }
-{
-    for case in cases {
-        of_case(alloc, case, out)?;
-    }
-    Ok(())
 }

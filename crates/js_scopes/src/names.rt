@@ -8,38 +8,40 @@ use js_tree::Name;
 use std::alloc::Global;
 use std::collections::BTreeSet;
 
-/// The names of a file, sorted by their bytes, each once.
-pub fn names_in(alloc: Global, found: &[Mention]) -> Result<Items<Name>, Memory>
-    ensures { IfOk result (λ names. names ≡ names_of found.now) }
+/// The names of a file, sorted by their bytes, each once. The mentions' own texts are taken.
+pub fn names_in(alloc: Global, found: Items<Mention>) -> Result<Items<Name>, Memory>
+    ensures { IfOk result (λ names. names ≡ names_of found) }
 {
     listed(alloc, sorted(alloc, found)?)
 }
 
-fn sorted(alloc: Global, found: &[Mention]) -> Result<BTreeSet<String>, Memory>
-    ensures { IfOk result (λ names. map string_bytes names.keys ≡ names_of found.now) }
+#[tactic(auto, using(crate::proofs::Keys::with_mentions_push))]
+fn sorted(alloc: Global, found: Items<Mention>) -> Result<BTreeSet<String>, Memory>
+    ensures { IfOk result (λ names. map string_bytes names.keys ≡ names_of found) }
 {
     let mut names = BTreeSet::new(alloc);
-    for mention in found {
-        put_mention(alloc, mention, &mut names)?;
+    let mentions = found.into_vec();
+    for mention in mentions {
+        put_mention(mention, &mut names)?;
     }
     Ok(names)
 }
 
-fn put_mention(alloc: Global, mention: &Mention, names: &mut BTreeSet<String>) -> Result<(), Memory>
-    ensures { OnOk result (map string_bytes names.new.keys ≡ with_mention (map string_bytes names.old.keys) mention.now) }
+fn put_mention(mention: Mention, names: &mut BTreeSet<String>) -> Result<(), Memory>
+    ensures { OnOk result (map string_bytes names.new.keys ≡ with_mention (map string_bytes names.old.keys) mention) }
 {
     match mention {
-        Mention::Variable(_, name) => put_name(alloc, name.as_str(), names),
-        Mention::Label(_, name) => put_name(alloc, name.as_str(), names),
-        Mention::Member(name) => put_name(alloc, name.as_str(), names),
+        Mention::Variable(_, name) => put_name(name, names),
+        Mention::Label(_, name) => put_name(name, names),
+        Mention::Member(name) => put_name(name, names),
         Mention::Required(_) => Ok(()),
     }
 }
 
-fn put_name(alloc: Global, name: &str, names: &mut BTreeSet<String>) -> Result<(), Memory>
-    ensures { OnOk result (map string_bytes names.new.keys ≡ with_name (map string_bytes names.old.keys) name.now) }
+fn put_name(name: Text, names: &mut BTreeSet<String>) -> Result<(), Memory>
+    ensures { OnOk result (map string_bytes names.new.keys ≡ with_name (map string_bytes names.old.keys) name) }
 {
-    names.insert(String::from_str(alloc, name)?)?;
+    names.insert(name.into_string())?;
     Ok(())
 }
 

@@ -6,15 +6,15 @@ ghost use Rattle.js_scopes.specs.Checks.{first_reserved, first_reserved_among, r
 ghost use Rattle.js_scopes.specs.Required.{required_of};
 ghost use Rattle.js_scopes.specs.Mentions.{start, mentions_file};
 ghost use Rattle.js_scopes.specs.Names.{names_of};
-ghost use Rattle.js_text.specs.Reserved.{is_among, strict_words};
+ghost use Rattle.js_scopes.specs.Reserved.{is_reserved, is_strict};
 ghost use Rattle.js_tree.specs.Tree.{plain_file};
 
 use crate::mention::Mention;
 use crate::mentions::mentions_of;
 use crate::names::names_in;
 use crate::required::required_in;
+use crate::reserved::{is_reserved, is_strict};
 use items::{Items, Memory, Text};
-use js_lexer::is_reserved;
 use js_tree::{File, Name, Pos};
 use std::alloc::Global;
 use std::marker::Model;
@@ -31,7 +31,8 @@ pub struct ScopeFault {
 /// Why a file is refused.
 #[derive(Clone, Copy, Debug, PartialEq, Eq)]
 pub enum ScopeFaultKind {
-    /// A reserved word is bound or referred to, or a word that strict code reserves is a label.
+    /// A name that the suite refuses is bound or referred to, or a word that strict code reserves is
+    /// a name or a label.
     Reserved,
     /// There was not enough memory.
     Memory,
@@ -118,7 +119,7 @@ impl Checked {
     /// What the file asks for: the strings without lone surrogates that calls of the name
     /// `require` begin with, in the order of its text, as often as they are written. It takes no
     /// memory.
-    pub fn required(&self) -> &[Text]
+    pub fn requires_(&self) -> &[Text]
         ensures { result.now ≡ required_of (mentions_file (plain_file self.now)) }
     {
         self.lists.required.as_slice()
@@ -156,10 +157,9 @@ fn lists_of(alloc: Global, file: &File) -> Result<Lists, ScopeFault>
             kind: ScopeFaultKind::Reserved,
         });
     }
-    Ok(Lists {
-        names: names_in(alloc, found.as_slice())?,
-        required: required_in(alloc, found.as_slice())?,
-    })
+    let required = required_in(alloc, found.as_slice())?;
+    let names = names_in(alloc, found)?;
+    Ok(Lists { names, required })
 }
 
 /// The first place where a reserved word is a name.
@@ -179,7 +179,7 @@ fn reserved_in(mention: &Mention) -> Option<Pos>
 {
     match mention {
         Mention::Variable(at, name) => when(is_reserved(name.as_str()), *at),
-        Mention::Label(at, name) => when(is_strict_word(name.as_str()), *at),
+        Mention::Label(at, name) => when(is_strict(name.as_str()), *at),
         Mention::Member(_) => None,
         Mention::Required(_) => None,
     }
@@ -189,19 +189,4 @@ fn when(holds: bool, at: Pos) -> Option<Pos>
     ensures { result ≡ (if holds then Some at else None) }
 {
     if holds { Some(at) } else { None }
-}
-
-/// Whether strict code alone keeps a word from being a name.
-fn is_strict_word(word: &str) -> bool
-    ensures { result ≡ is_among strict_words word.now }
-{
-    word == "implements"
-        || word == "interface"
-        || word == "let"
-        || word == "package"
-        || word == "private"
-        || word == "protected"
-        || word == "public"
-        || word == "static"
-        || word == "yield"
 }

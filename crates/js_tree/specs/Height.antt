@@ -39,7 +39,7 @@ abbrev mutual
   height_expr (StringLiteral _ _) = 1
   height_expr (ArrayLiteral _ items) = height_exprs items + 1
   height_expr (ObjectLiteral _ properties) = height_properties properties + 1
-  height_expr (FunctionExpression _ _ function) = height_function function + 1
+  height_expr (FunctionExpression _ _ function) = height_function function
   height_expr (ArrowFunction _ params body) = max (height_params params) (height_concise_body body) + 1
   height_expr (RegularExpressionLiteral _ _ _) = 1
   height_expr (TemplateLiteral _ _ parts) = height_template_parts parts + 1
@@ -80,7 +80,7 @@ abbrev mutual
   height_stmt (TryFinally _ block finally) = max (height_stmts block) (height_stmts finally) + 1
   height_stmt (TryCatchFinally _ block catch finally) = max (height_stmts block) (max (height_catch catch) (height_stmts finally)) + 1
   height_stmt (Debugger _) = 1
-  height_stmt (FunctionDeclaration _ _ function) = height_function function + 1
+  height_stmt (FunctionDeclaration _ _ function) = height_function function
 
   -- the name of a shorthand is a leaf
   pub height_property : Property → ℕ
@@ -112,9 +112,10 @@ abbrev mutual
   pub height_template_part : TemplatePart → ℕ
   height_template_part (MakeTemplatePart value _) = height_expr value
 
-  -- what stands in a function, which its declaration, expression, arrow or method is one more than
+  -- one more than its highest part: its declaration or its expression is the function and no level more, a method is a
+  -- property with a function in it
   pub height_function : Function → ℕ
-  height_function (MakeFunction params body) = max (height_params params) (height_function_body body)
+  height_function (MakeFunction params body) = max (height_params params) (height_function_body body) + 1
 
   pub height_function_body : FunctionBody → ℕ
   height_function_body (MakeFunctionBody _ statements) = height_stmts statements

@@ -1,11 +1,13 @@
 //! The syntax tree of a JavaScript file, and the places in its text.
 #![tactic(auto)]
 
+mod construct;
 mod operators;
 mod place;
 mod tree;
 mod words;
 
+pub use construct::{BranchKind, Construct};
 pub use operators::{
     AssignmentOperator, BinaryOperator, LogicalOperator, UnaryOperator, UpdateOperator,
     VariableKind,

@@ -24,7 +24,7 @@ fn both(alloc: Global, checked: &Checked) -> Result<String, Memory> {
     let mut line = String::new(alloc);
     push_all(checked.names(), &mut line)?;
     line.push_str("|")?;
-    for text in checked.required() {
+    for text in checked.requires_() {
         line.push_str(" ")?;
         line.push_str(text.as_str())?;
     }

@@ -4,4 +4,4 @@ use Rattle.js_scopes.proofs.Keys.{insert_key-bytes}
 use Rattle.js_scopes.proofs.names.put_name.Goals as goal
 
 pub returns : goal.returns
-returns c = grind (arith, insert_key-bytes c.args.names.now.keys c.in_ok-from_str.field-0)
+returns c = grind (arith, insert_key-bytes c.args.names.now.keys c.into_string.result)

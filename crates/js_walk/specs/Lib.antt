@@ -1,0 +1,4 @@
+pub mod Constructs
+pub mod Part
+pub mod Plain
+pub mod Walk
