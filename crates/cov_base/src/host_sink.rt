@@ -39,6 +39,8 @@ impl<W: io::Write> Sink for HostSink<W> {
 
     ghost faults = { faults_of };
 
+    ghost wants = { λ _ _ _. ⊥ };
+
     /// Passes the bytes on to the writer. It is `Device` where the writer fails, takes none of a
     /// piece that has bytes, or was interrupted too often.
     fn write(&mut self, bytes: &[u8]) -> Result<usize, Failed>

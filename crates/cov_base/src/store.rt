@@ -5,7 +5,7 @@ ghost use Rattle.cov_base.specs.Store.{Held, ReadsHeld, PutsAt};
 use crate::Failed;
 
 /// Files by their paths. A store may tell what it holds, and counts the faults of its reads and
-/// of its puts, each in a number that never falls.
+/// of its puts, each in a number that never falls. Want of memory is no fault, and isn't counted.
 pub trait Store {
     /// The bytes at each path, where the store tells them.
     ghost held: { Self → Option Held };

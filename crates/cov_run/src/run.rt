@@ -42,10 +42,9 @@ pub fn exec(alloc: Global, path: &str, tree: Checked, turns: u64) -> Result<Ran,
 {
     let mut machine = start(alloc, path, tree)?;
     let end = machine.run(turns)?;
-    let output = Vec::from_slice(alloc, machine.output())?;
     Ok(Ran {
         end,
-        output: Items::from_vec(output),
+        output: machine.into_output(),
     })
 }
 

@@ -3,7 +3,7 @@
 --     exec [--turns N] FILE
 -- They are read as the kit's clap says: a form is clap's data, `fault_of` says of a form and words what is wrong with them,
 -- and `subcommand_of` the command that they name and what it finds for each of its arguments.
-use Rattle.std.specs.Prelude.{ℕ, true, List, [], ◌∷◌, Option, Some, None, option_map, option_and_then, if◌then◌else◌, codes, string_bytes}
+use Rattle.std.specs.Prelude.{ℕ, true, List, [], ◌∷◌, Option, Some, None, option_map, option_and_then, if◌then◌else◌, codes}
 use Rattle.std.specs.Str.{bytes_eq}
 use Rattle.std.specs.Str.Parse.{digits_value, without_leading_plus}
 use Rattle.clap.specs.Walk.{Row, Rule, Text, first_of, is_empty, one_of}
@@ -22,8 +22,8 @@ pub data Request : Type 0 where
 
 -- what a command of the code asks
 abbrev pub request_of : Command → Request
-request_of (command.Maps file) = Maps (string_bytes file)
-request_of (command.Exec turns file) = Exec turns (string_bytes file)
+request_of (command.Maps file) = Maps file
+request_of (command.Exec turns file) = Exec turns file
 
 -- ---- the forms
 

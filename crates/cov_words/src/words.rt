@@ -6,16 +6,16 @@ ghost use Rattle.cov_words.specs.Words as spec;
 use crate::path::source_path;
 use clap::error::ErrorKind;
 use clap::{Arg, ArgMatches};
-use items::Memory;
+use items::{Memory, Text};
 use std::alloc::{AllocError, Global};
 
 /// What the words of the command line ask for.
 #[derive(Debug, Drop)]
 pub enum Command {
     /// To write the map of the file at this source path.
-    Maps { file: String },
+    Maps { file: Text },
     /// To run the file at this source path, for so many turns at most.
-    Exec { turns: u64, file: String },
+    Exec { turns: u64, file: Text },
 }
 
 /// The command that the words after the program's name give, `None` where they have no reading.
@@ -131,8 +131,8 @@ fn turns_in(own: &ArgMatches<'_>) -> Option<u64>
 }
 
 /// The source path that the word found for FILE names.
-fn file_in(alloc: Global, own: &ArgMatches<'_>) -> Result<Option<String>, Memory>
-    ensures { IfOk result (λ found. option_map string_bytes found ≡ spec.file_in (rows_of (found_of own.now))) }
+fn file_in(alloc: Global, own: &ArgMatches<'_>) -> Result<Option<Text>, Memory>
+    ensures { IfOk result (λ found. found ≡ spec.file_in (rows_of (found_of own.now))) }
 {
     match own.get_str("file") {
         Some(word) => source_path(alloc, word),

@@ -8,7 +8,7 @@ use Rattle.js_meaning.specs.Language.{is_said_expr, are_said_exprs}
 use Rattle.js_code.specs.declared.node.Node.{Node}
 use Rattle.js_code.specs.Node.{PartsBelow, build_expr, build_exprs, build_stmt, build_stmts, build_declarators}
 use Rattle.js_code.specs.Code.{node_at, reader, IsOrdered, Extends, ReadsExpr, ReadsExprs, ReadsStmt, ReadsStmts, ReadsDeclarators}
-use Rattle.js_code.specs.Push.{Grows}
+use Rattle.js_code.specs.private.Push.{Grows}
 use Rattle.js_code.proofs.Places.{Same, kept, expr_is, exprs_is, stmt_is, stmts_is, declarators_is, build_expr_same, build_exprs_same, build_stmt_same, build_stmts_same, build_declarators_same}
 
 both : (a b : Bool) → (a && b) ≡ true → (a ≡ true) × (b ≡ true)

@@ -9,8 +9,8 @@ use Rattle.js_tree.specs.declared.tree.Stmt.{Stmt}
 use Rattle.js_meaning.specs.Language.{is_said_kind, is_said_stmt, are_said_stmts, is_said_declarator, are_said_declarators}
 use Rattle.js_code.specs.declared.node.Node.{Node}
 use Rattle.js_code.specs.Code.{reader, ReadsStmt, ReadsStmts, ReadsDeclarators}
-use Rattle.js_code.specs.Push.{Grows}
-use Rattle.js_code.proofs.Pushed.{first_said, second_said, kept_stmts, kept_declarators, reading_rules}
+use Rattle.js_code.specs.private.Push.{Grows}
+use Rattle.js_code.proofs.Pushed.{first_said, second_said, kept_stmts, reading_rules}
 
 pub said_kind : (kind : VariableKind) → is_said_kind kind ≡ true → kind ≡ variable.Var
 said_kind variable.Var h = refl

@@ -1,4 +1,4 @@
 pub mod Code
 pub mod Literal
 pub mod Node
-pub mod Push
+pub mod private

@@ -12,7 +12,6 @@ use std::marker::Model;
 
 /// A program's code: nodes, each of which stands after its parts. Contracts see it as the list of
 /// them.
-#[derive(Drop)]
 pub struct Code {
     nodes: Items<Node>,
 }
@@ -27,6 +26,14 @@ impl Model for Code {
     ghost view = { λ code. code.nodes };
 
     ghost invariant = { λ code. IsOrdered code.nodes };
+}
+
+impl Drop for Code {
+    // Written out, so that what owns code needn't prove it again.
+    fn drop(self) {
+        let Code { nodes } = self;
+        drop(nodes);
+    }
 }
 
 impl Code {

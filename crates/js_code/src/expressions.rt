@@ -3,7 +3,7 @@ ghost use Rattle.js_tree.specs.Plain.{IdentifierReference};
 ghost use Rattle.js_tree.specs.Tree.{plain_expr, plain_expr_if, plain_exprs};
 ghost use Rattle.js_meaning.specs.Language.{are_said_exprs, is_said_expr, is_said_expr_if, is_said_target};
 ghost use Rattle.js_code.specs.Code.{IsOrdered, ReadsExpr, ReadsExprIf, ReadsExprs};
-ghost use Rattle.js_code.specs.Push.{Grows};
+ghost use Rattle.js_code.specs.private.Push.{Grows};
 
 use crate::literal::{Numeral, StringValue};
 use crate::node::Node;

@@ -1,7 +1,7 @@
 ghost use Rattle.std.specs.Prelude.{◌≡◌, length, IfOk};
 ghost use Rattle.js_code.specs.Code.{IsOrdered, ReadsDeclarators, ReadsExpr, ReadsExprs, ReadsStmt, ReadsStmts, reader};
 ghost use Rattle.js_code.specs.Node.{PartsBelow, build_declarators, build_expr, build_exprs, build_stmt, build_stmts};
-ghost use Rattle.js_code.specs.Push.{Grows};
+ghost use Rattle.js_code.specs.private.Push.{Grows};
 
 use crate::node::Node;
 use items::{Items, Memory, Text};

@@ -3,7 +3,7 @@ ghost use Rattle.js_tree.specs.Plain.{more_declarator};
 ghost use Rattle.js_tree.specs.Tree.{plain_declarator, plain_declarators, plain_stmt, plain_stmt_if, plain_stmts};
 ghost use Rattle.js_meaning.specs.Language.{are_said_declarators, are_said_stmts, is_said_declarator, is_said_stmt, is_said_stmt_if};
 ghost use Rattle.js_code.specs.Code.{IsOrdered, ReadsDeclarators, ReadsStmt, ReadsStmtIf, ReadsStmts, reader};
-ghost use Rattle.js_code.specs.Push.{Grows};
+ghost use Rattle.js_code.specs.private.Push.{Grows};
 
 use crate::expressions::{expr, expr_if};
 use crate::node::Node;

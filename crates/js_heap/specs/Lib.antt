@@ -1,3 +1,4 @@
 pub mod Environment
 pub mod Heap
 pub mod Object
+pub mod private

@@ -2,7 +2,7 @@
 use Rattle.std.specs.Prelude.{ℕ, suc, ◌≤◌, List, map, Option, None, Some, option_map, slice_index_or}
 use Rattle.js_value.specs.declared.value.Value.{Value}
 use Rattle.js_value.specs.State as state
-use Rattle.js_value.specs.Objects.{no_object, with_property}
+use Rattle.js_value.specs.Objects.{no_object}
 use Rattle.js_heap.specs.declared.object.ObjectKind.{ObjectKind}
 use Rattle.js_heap.specs.declared.object.ObjectKind.TheVariants.{Plain, Array, Error, RegExp, BuiltIn, Written}
 use Rattle.js_heap.specs.declared.object.Flags.{Flags}
@@ -36,10 +36,6 @@ plain_object object = record {
   frozen = object.frozen;
   properties = map plain_property object.properties.items;
 }
-
--- the object with a property defined
-abbrev pub with_defined : state.Property → state.ObjectRecord → state.ObjectRecord
-with_defined property object = record object { properties = with_property property object.properties }
 
 -- as many as there can be in a chain that begins with this one, where each is older than the one before
 abbrev pub reach_of : Option ℕ → ℕ

@@ -12,13 +12,26 @@ use std::alloc::Global;
 
 /// The objects and environments of a running program, each numbered in the order in which they
 /// were made.
-#[derive(Debug, Drop)]
+#[derive(Debug)]
 pub struct Heap {
     alloc: Global,
     objects: Vec<ObjectRecord>,
     environments: Vec<Environment>,
     ghost prototypes: { PrototypesAreOlder (map plain_object objects.items) },
     ghost outers: { OutersAreOlder (map plain_environment environments.items) },
+}
+
+impl Drop for Heap {
+    // Written out, so that what owns a heap needn't prove it again.
+    fn drop(self) {
+        let Heap {
+            alloc: _,
+            objects,
+            environments,
+        } = self;
+        drop(objects);
+        drop(environments);
+    }
 }
 
 impl Heap {

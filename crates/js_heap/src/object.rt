@@ -52,7 +52,8 @@ impl ObjectRecord {
     ghost use Rattle.std.specs.Prelude.{position};
     ghost use Rattle.std.specs.Str.{bytes_eq};
     ghost use Rattle.js_value.specs.Objects.{property_of};
-    ghost use Rattle.js_heap.specs.Object.{plain_property, plain_object, with_defined};
+    ghost use Rattle.js_heap.specs.Object.{plain_property, plain_object};
+    ghost use Rattle.js_heap.specs.private.Object.{with_defined};
 
     /// The place of its own property of this key.
     fn place_of(&self, key: &Str) -> Option<usize>

@@ -5,7 +5,7 @@ use Rattle.std.specs.Str.{bytes_eq}
 use Rattle.js_value.specs.State.{ObjectKind, Property, ObjectRecord, Store}
 use Rattle.js_value.specs.Objects.{no_object, object_at, with_object, next_object, new_object, with_property, define, freeze}
 use Rattle.js_value.specs.Realm.{built_in}
-use Rattle.js_host.specs.Opening.{with_added}
+use Rattle.js_host.specs.private.Opening.{with_added}
 
 pub object_at-added : (x : ObjectRecord) (s : Store) (o : ℕ) → o ≡ next_object s → object_at (with_added x s) o ≡ x
 object_at-added x s o e = rw e (get_or-append_seam s.objects x [] no_object)

@@ -1,3 +1,2 @@
-pub mod ErrorKind
 pub mod Native
-pub mod Opening
+pub mod private

@@ -1,13 +1,12 @@
 //! The host of the small language: what stands when a program begins, and what the built-in functions answer.
 #![tactic(auto)]
 
-mod error_kind;
 mod native;
 mod opening;
 mod places;
 mod texts;
 
-pub use error_kind::ErrorKind;
+pub use js_value::ErrorKind;
 pub use native::{Native, call_native};
 pub use opening::realm;
 pub use places::{error_prototype, global_environment, object_prototype};

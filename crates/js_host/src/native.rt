@@ -2,15 +2,14 @@ ghost use Rattle.std.specs.Prelude.{◌≡◌, ◌++◌, IfOk, OnOk, OnErr, Err,
 ghost use Rattle.js_value.specs.Operators.{Reads, NoText};
 ghost use Rattle.js_value.specs.Host as spec;
 ghost use Rattle.js_value.specs.Host.{Throws, native_of, native_store, writes_line, texts_after, utf8_of};
-ghost use Rattle.js_value.specs.Realm.{TypeError};
+ghost use Rattle.js_value.specs.declared.error_kind.ErrorKind.TheVariants.{TypeError};
 ghost use Rattle.js_heap.specs.Heap.{store_of};
 ghost use Rattle.js_host.specs.Native.{plain_native};
 
-use crate::ErrorKind;
 use crate::texts::ascii;
 use items::{Items, Memory};
 use js_heap::Heap;
-use js_value::{Kind, OpFault, Str, Value, to_text};
+use js_value::{ErrorKind, Kind, OpFault, Str, Value, to_text};
 use std::alloc::{AllocError, Global};
 
 /// What a call of a built-in function answers.

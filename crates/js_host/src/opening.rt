@@ -8,16 +8,15 @@ ghost use Rattle.js_value.specs.Realm as spec;
 ghost use Rattle.js_value.specs.Realm.{the_error_prototype, the_function, built_in, built_in_objects};
 ghost use Rattle.js_heap.specs.Object.{property_with};
 ghost use Rattle.js_heap.specs.Heap.{store_of, store_with, empty_store, HoldsObject, HoldsEnvironment};
-ghost use Rattle.js_host.specs.Opening.{with_added, first_objects, error_prototypes};
+ghost use Rattle.js_host.specs.private.Opening.{with_added, first_objects, error_prototypes};
 
-use crate::ErrorKind;
 use crate::native::PRINT;
 use crate::places::{error_prototype, function_prototype, object_prototype, print_function};
 use crate::texts::ascii;
 use items::Memory;
 use js_heap::{Env, Flags, Heap, ObjectKind};
 use js_tree::Name;
-use js_value::{Object, Primitive, Value};
+use js_value::{ErrorKind, Object, Primitive, Value};
 use std::alloc::Global;
 
 /// A property that isn't enumerated and may be written.

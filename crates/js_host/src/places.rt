@@ -1,10 +1,8 @@
 ghost use Rattle.std.specs.Prelude.{◌≡◌};
 ghost use Rattle.js_value.specs.Realm as realm;
-ghost use Rattle.js_host.specs.ErrorKind.{plain_error_kind};
 
-use crate::ErrorKind;
 use js_heap::Env;
-use js_value::Object;
+use js_value::{ErrorKind, Object};
 
 /// The object that objects inherit from (ECMA-262, 20.1.3).
 pub fn object_prototype() -> Object
@@ -22,7 +20,7 @@ pub(crate) fn function_prototype() -> Object
 
 /// The object that the errors of this kind inherit from (20.5.3 and 20.5.6.3).
 pub fn error_prototype(kind: ErrorKind) -> Object
-    ensures { result.index ≡ realm.error_prototype (plain_error_kind kind) }
+    ensures { result.index ≡ realm.error_prototype kind }
 {
     Object::at(match kind {
         ErrorKind::Error => 3,

@@ -16,9 +16,9 @@ use Rattle.js_machine.specs.declared.data.Action.{Action}
 use Rattle.js_machine.specs.declared.data.Action.TheVariants as action
 use Rattle.js_machine.specs.declared.data.Control.{Control}
 use Rattle.js_machine.specs.declared.state.State.{State}
-use Rattle.js_machine.specs.Config.{View, action_comp, control_comp}
-use Rattle.js_machine.specs.State.{store_in, Becomes}
-use Rattle.js_machine.specs.Done.{after_assign, Assigned, AssignedTo}
+use Rattle.js_machine.specs.private.Config.{View, action_comp, control_comp}
+use Rattle.js_machine.specs.private.State.{store_in, Becomes}
+use Rattle.js_machine.specs.private.Done.{after_assign, Assigned, AssignedTo}
 use Rattle.js_machine.proofs.Outside.{found_or}
 
 -- a name is found in the environments alone

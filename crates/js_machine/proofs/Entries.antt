@@ -8,7 +8,7 @@ use Rattle.js_heap.proofs.Lists.{position-map}
 use Rattle.js_meaning.specs.declared.program.ProgramFile.{ProgramFile}
 use Rattle.js_meaning.specs.declared.program.Program.{Program}
 use Rattle.js_meaning.specs.Program.{source_of, sources_of, file_at}
-use Rattle.js_machine.specs.Opening.{Found}
+use Rattle.js_machine.specs.private.Opening.{Found}
 
 abbrev place_among : List ProgramFile → List ℕ → Option ℕ
 place_among files path = position (λ file. bytes_eq file.path path) files

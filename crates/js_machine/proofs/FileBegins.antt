@@ -13,10 +13,10 @@ use Rattle.js_meaning.specs.Program.{Source, Sources, uncounted, uncounted_sourc
 use Rattle.js_meaning.specs.VarNames.{var_stmts}
 use Rattle.js_meaning.specs.Files.{declare_all, file_names, file_objects, file_environment, begin, start_source, run_source, inside}
 use Rattle.js_meaning.specs.World.{meaning}
-use Rattle.js_machine.specs.Config.{view_of}
-use Rattle.js_machine.specs.Moves.{todo}
-use Rattle.js_machine.specs.Opening.{Found, Opens, statements_of, opened_with, opened_environment, names_of, body_of}
-use Rattle.js_machine.specs.State.{store_in}
+use Rattle.js_machine.specs.private.Config.{view_of}
+use Rattle.js_machine.specs.private.Moves.{todo}
+use Rattle.js_machine.specs.private.Opening.{Found, Opens, statements_of, opened_with, opened_environment, names_of, body_of}
+use Rattle.js_machine.specs.private.State.{store_in}
 use Rattle.js_machine.specs.Whole.{Whole, AreSaid, Begins}
 
 -- the objects and environments of a store, and all else of another

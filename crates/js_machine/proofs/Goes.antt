@@ -8,10 +8,10 @@ use Rattle.js_meaning.specs.Program.{Sources, uncounted}
 use Rattle.js_meaning.specs.Files.{inside}
 use Rattle.js_meaning.specs.World.{meaning, plainly, end_of}
 use Rattle.js_machine.specs.declared.data.Rest.{Rest}
-use Rattle.js_machine.specs.Config.{view_of}
-use Rattle.js_machine.specs.Moves.{todo}
-use Rattle.js_machine.specs.Runs.{Runs, rest_outcome}
-use Rattle.js_machine.specs.State.{store_in}
+use Rattle.js_machine.specs.private.Config.{view_of}
+use Rattle.js_machine.specs.private.Moves.{todo}
+use Rattle.js_machine.specs.private.Runs.{Runs, rest_outcome}
+use Rattle.js_machine.specs.private.State.{store_in}
 use Rattle.js_machine.specs.Whole.{Whole, Follows, EndsAs, Goes}
 
 module _ (steps : ℕ) (old new : Whole) (rest : Rest) (end : End)

@@ -12,9 +12,9 @@ use Rattle.js_machine.specs.declared.data.Rest.{Rest}
 use Rattle.js_machine.specs.declared.data.Rest.TheVariants as rest
 use Rattle.js_machine.specs.declared.data.Step.{Step}
 use Rattle.js_machine.specs.declared.state.State.{State}
-use Rattle.js_machine.specs.Config.{View, action_comp, action_weight, control_comp, control_weight, step_comp, step_weight, frame_comp, frame_weight, frames_weight, plug}
-use Rattle.js_machine.specs.Moves.{Here, here, Leads, Moves, Rests, IsAt, rest_control}
-use Rattle.js_machine.specs.State.{store_in, Becomes}
+use Rattle.js_machine.specs.private.Config.{View, action_comp, action_weight, control_comp, control_weight, step_comp, step_weight, frame_comp, frame_weight, frames_weight, plug}
+use Rattle.js_machine.specs.private.Moves.{Here, here, Leads, Moves, Rests, IsAt, rest_control}
+use Rattle.js_machine.specs.private.State.{store_in, Becomes}
 use Rattle.js_machine.proofs.Plug.{plug_push, plug_becomes, frames_weight-push}
 
 pub leads_none : (t : View) (a : Here) → Leads t a a

@@ -21,8 +21,8 @@ use Rattle.js_machine.specs.declared.data.Entry.TheVariants.{Call, CallBuiltIn}
 use Rattle.js_machine.specs.declared.data.Step.{Step}
 use Rattle.js_machine.specs.declared.data.Step.TheVariants.{Go}
 use Rattle.js_machine.specs.declared.state.State.{State}
-use Rattle.js_machine.specs.Config.{View, entry_of, step_comp}
-use Rattle.js_machine.specs.State.{store_in, Becomes}
+use Rattle.js_machine.specs.private.Config.{View, entry_of, step_comp}
+use Rattle.js_machine.specs.private.State.{store_in, Becomes}
 use Rattle.js_machine.proofs.Acts.{store_changes}
 
 -- the step to the value undefined

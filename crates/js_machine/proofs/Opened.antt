@@ -3,11 +3,13 @@ use Rattle.std.proofs.Common.{◌≡◌, ℕ, ◌+◌, List, [], ◌∷◌, Some
 use Rattle.js_value.specs.State.{Store, Binding}
 use Rattle.js_value.specs.Objects.{next_object}
 use Rattle.js_value.specs.Environments.{declare, new_environment, next_environment}
-use Rattle.js_value.specs.Realm.{realm, object, global_environment, ErrorKind, Error, TypeError, RangeError, ReferenceError, SyntaxError, error_prototype}
+use Rattle.js_value.specs.declared.error_kind.ErrorKind.{ErrorKind}
+use Rattle.js_value.specs.declared.error_kind.ErrorKind.TheVariants.{Error, TypeError, RangeError, ReferenceError, SyntaxError}
+use Rattle.js_value.specs.Realm.{realm, object, global_environment, error_prototype}
 use Rattle.js_heap.specs.Heap.{HoldsObject}
 use Rattle.js_meaning.specs.Files.{variable, variables, declare_all, file_objects}
-use Rattle.js_machine.specs.Errors.{HoldsErrors}
-use Rattle.js_machine.specs.Opening.{opened_with, opened_environment}
+use Rattle.js_machine.specs.private.Errors.{HoldsErrors}
+use Rattle.js_machine.specs.private.Opening.{opened_with, opened_environment}
 
 -- one part after another
 pub opened_is : (names : List (List ℕ)) (s₀ s₁ s₂ s₃ s₄ : Store) (e x y : ℕ) →

@@ -8,8 +8,8 @@ use Rattle.js_meaning.specs.Effects as E
 use Rattle.js_meaning.specs.Effects.{Comp, ret, refuse, enter, handle, ran, exec}
 use Rattle.js_meaning.proofs.Handle.{handle_again, handle_ret}
 use Rattle.js_machine.specs.declared.data.Frame.{Frame}
-use Rattle.js_machine.specs.Config.{View, frame_comp, frame_weight, frames_weight, plug}
-use Rattle.js_machine.specs.State.{Becomes}
+use Rattle.js_machine.specs.private.Config.{View, frame_comp, frame_weight, frames_weight, plug}
+use Rattle.js_machine.specs.private.State.{Becomes}
 
 module _ (t : View) where
   pub plug_push : (fs : List Frame) (f : Frame) (c : Comp) → plug t (fs ++ f ∷ []) c ≡ plug t fs (handle c (frame_comp t f))

@@ -12,10 +12,10 @@ use Rattle.js_machine.specs.declared.data.Rest.{Rest}
 use Rattle.js_machine.specs.declared.data.Rest.TheVariants as rest
 use Rattle.js_machine.specs.declared.data.Step.{Step}
 use Rattle.js_machine.specs.declared.state.State.{State}
-use Rattle.js_machine.specs.Config.{View, control_comp, step_comp, entry_of, plug}
-use Rattle.js_machine.specs.Moves.{Here, here, todo, Leads, Rests, rest_control}
-use Rattle.js_machine.specs.Runs.{Takes, Runs, rest_outcome}
-use Rattle.js_machine.specs.State.{store_in, Becomes}
+use Rattle.js_machine.specs.private.Config.{View, control_comp, step_comp, entry_of, plug}
+use Rattle.js_machine.specs.private.Moves.{Here, here, todo, Leads, Rests, rest_control}
+use Rattle.js_machine.specs.private.Runs.{Takes, Runs, rest_outcome}
+use Rattle.js_machine.specs.private.State.{store_in, Becomes}
 use Rattle.js_machine.proofs.Plug.{plug_refuse, plug_becomes, exec_enters, exec_stops}
 
 module _ (p : Sources) (t : View) where

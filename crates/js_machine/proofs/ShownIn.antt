@@ -8,7 +8,7 @@ use Rattle.js_value.specs.Host.{utf8_of}
 use Rattle.js_heap.specs.Heap.{store_of}
 use Rattle.js_meaning.specs.World.{shown, shown_units, shown_object, shown_part, titled}
 use Rattle.js_machine.specs.declared.state.State.{State}
-use Rattle.js_machine.specs.State.{store_in}
+use Rattle.js_machine.specs.private.State.{store_in}
 
 -- a property is found in the objects alone
 module _ (base : Store) (s : State) where

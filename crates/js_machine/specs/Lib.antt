@@ -1,9 +1,2 @@
-pub mod Config
-pub mod Done
-pub mod Errors
-pub mod Moves
-pub mod Opening
-pub mod Runs
-pub mod State
-pub mod Weight
 pub mod Whole
+pub mod private

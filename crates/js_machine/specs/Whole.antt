@@ -9,9 +9,9 @@ use Rattle.js_meaning.specs.Language.{is_said_file}
 use Rattle.js_meaning.specs.Program.{Sources, uncounted, file_at}
 use Rattle.js_meaning.specs.Files.{inside}
 use Rattle.js_meaning.specs.World.{meaning, PlainRun, plain}
-use Rattle.js_machine.specs.Config.{view_of}
-use Rattle.js_machine.specs.Moves.{Here, todo}
-use Rattle.js_machine.specs.State.{store_in}
+use Rattle.js_machine.specs.private.Config.{view_of}
+use Rattle.js_machine.specs.private.Moves.{Here, todo}
+use Rattle.js_machine.specs.private.State.{store_in}
 
 -- the code, where the machine is in it, how many steps it was given, and whether it wanted memory
 pub record Whole : Type 0 where

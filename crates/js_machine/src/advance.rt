@@ -4,9 +4,9 @@ ghost use Rattle.std.specs.Prelude.{◌≡◌, ◌<◌, ◌+◌, [], IfOk};
 ghost use Rattle.js_code.specs.Code.{reader};
 ghost use Rattle.js_meaning.specs.Marks.{Unmarked};
 ghost use Rattle.js_meaning.specs.Meaning.{comp_expr, comp_arguments, comp_declarators, comp_stmt, comp_stmts};
-ghost use Rattle.js_machine.specs.Weight.{weight_expr, weight_exprs, weight_declarators, weight_stmt, weight_stmts};
-ghost use Rattle.js_machine.specs.Config.{View, view_of, step_comp, step_weight, control_comp, control_weight, plug, frames_weight};
-ghost use Rattle.js_machine.specs.Moves.{here, Moves, Rests};
+ghost use Rattle.js_machine.specs.private.Weight.{weight_expr, weight_exprs, weight_declarators, weight_stmt, weight_stmts};
+ghost use Rattle.js_machine.specs.private.Config.{View, view_of, step_comp, step_weight, control_comp, control_weight, plug, frames_weight};
+ghost use Rattle.js_machine.specs.private.Moves.{here, Moves, Rests};
 
 use crate::data::{Control, Frame, Move, Rest, Step};
 use crate::perform::perform;

@@ -5,8 +5,8 @@ ghost use Rattle.js_value.specs.State.{Store};
 ghost use Rattle.js_meaning.specs.Program.{Sources};
 ghost use Rattle.js_meaning.specs.Files.{inside, native as native_comp};
 ghost use Rattle.js_host.specs.Native.{plain_native};
-ghost use Rattle.js_machine.specs.Config.{View, entry_of, step_comp};
-ghost use Rattle.js_machine.specs.State.{store_in, Becomes};
+ghost use Rattle.js_machine.specs.private.Config.{View, entry_of, step_comp};
+ghost use Rattle.js_machine.specs.private.State.{store_in, Becomes};
 
 use crate::data::{Control, Entry, Frame, Step};
 use crate::perform::throw_error;

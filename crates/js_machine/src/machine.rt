@@ -4,7 +4,7 @@ ghost use Rattle.std.specs.Prelude.{◌≡◌, ◌+◌, ◌<◌, ◌^◌, true, 
 ghost use Rattle.js_tree.specs.Tree.{plain_file, plain_stmts};
 ghost use Rattle.js_meaning.specs.Language.{is_said_file};
 ghost use Rattle.js_meaning.specs.Program.{sources_of, file_at};
-ghost use Rattle.js_machine.specs.Opening.{Opens};
+ghost use Rattle.js_machine.specs.private.Opening.{Opens};
 ghost use Rattle.js_machine.specs.Whole.{AreSaid, Begins, Goes, output_of};
 
 use crate::data::{Control, Frame};
@@ -12,7 +12,7 @@ use crate::opening::{file_of, heap_of_file};
 use crate::run::run_on;
 use crate::settle::{end_of, rest_control};
 use crate::state::State;
-use items::Memory;
+use items::{Items, Memory};
 use js_code::{Code, file_names};
 use js_meaning::{Completion, End, Program};
 use js_tree::File;
@@ -42,7 +42,6 @@ impl From<Memory> for MachineFault {
 
 /// Runs a file of a program, a number of steps at a time, as the program's written meaning says
 /// where no file is counted.
-#[derive(Drop)]
 pub struct Machine {
     alloc: Global,
     code: Code,
@@ -55,11 +54,30 @@ pub struct Machine {
 
 impl Model for Machine {
     ghost use Rattle.js_machine.specs.Whole.{Whole};
-    ghost use Rattle.js_machine.specs.Moves.{here};
+    ghost use Rattle.js_machine.specs.private.Moves.{here};
 
     ghost Value = { Whole };
 
     ghost view = { λ m. record { code = m.code; here = here m.frames.items m.control m.state; given = m.given; lost = m.lost } };
+}
+
+impl Drop for Machine {
+    // Written out, so that what owns a machine needn't prove it again.
+    fn drop(self) {
+        let Machine {
+            alloc: _,
+            code,
+            state,
+            frames,
+            control,
+            given: _,
+            lost: _,
+        } = self;
+        drop(code);
+        drop(state);
+        drop(frames);
+        drop(control);
+    }
 }
 
 impl Machine {
@@ -138,11 +156,32 @@ impl Machine {
         self.given
     }
 
-    /// What was printed.
+    /// What was printed, lent.
     pub fn output(&self) -> &[u8]
         ensures { result.now ≡ output_of self.now }
     {
         self.state.output.as_slice()
+    }
+
+    /// What was printed, handed on. It takes no memory.
+    pub fn into_output(self) -> Items<u8>
+        ensures { result ≡ output_of self }
+    {
+        let Machine {
+            alloc: _,
+            code,
+            state,
+            frames,
+            control,
+            given: _,
+            lost: _,
+        } = self;
+        drop(code);
+        drop(frames);
+        drop(control);
+        let State { heap, output } = state;
+        drop(heap);
+        Items::from_vec(output)
     }
 }
 

@@ -10,7 +10,7 @@ ghost use Rattle.js_value.specs.Environments.{declare as declared};
 ghost use Rattle.js_heap.specs.Heap.{store_of, HoldsEnvironment};
 ghost use Rattle.js_meaning.specs.Files.{declare_all, file_objects, variable, variables};
 ghost use Rattle.js_meaning.specs.Program.{sources_of, source_of, file_at};
-ghost use Rattle.js_machine.specs.Opening.{Found, opened_with, opened_environment};
+ghost use Rattle.js_machine.specs.private.Opening.{Found, opened_with, opened_environment};
 
 use items::{Items, Memory};
 use js_heap::{Env, Flags, Heap, ObjectKind};

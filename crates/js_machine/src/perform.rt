@@ -1,28 +1,27 @@
 // What is done to the store.
 
-ghost use Rattle.std.specs.Prelude.{◌≡◌, ℕ, ◌<◌, [], IfOk, OnOk, MatchOption, codes};
+ghost use Rattle.std.specs.Prelude.{◌≡◌, ◌<◌, [], IfOk, OnOk, MatchOption, codes};
 ghost use Rattle.js_value.specs.State.{Store};
 ghost use Rattle.js_value.specs.Objects.{kind_of, next_object};
 ghost use Rattle.js_value.specs.Realm.{object as object_of};
 ghost use Rattle.js_code.specs.Code.{node_at};
-ghost use Rattle.js_host.specs.ErrorKind.{plain_error_kind};
 ghost use Rattle.js_value.specs.Environments.{lookup as store_lookup};
 ghost use Rattle.js_heap.specs.Heap.{store_of, HoldsEnvironment, HoldsObject};
 ghost use Rattle.js_meaning.specs.Meaning.{value_in, call_kind};
-ghost use Rattle.js_machine.specs.Config.{View, view_of, name_of, action_comp, action_weight, control_comp, control_weight};
-ghost use Rattle.js_machine.specs.Done.{Assigned, Thrown, error_made, fault_kind, fault_message};
-ghost use Rattle.js_machine.specs.Errors.{HoldsErrors};
-ghost use Rattle.js_machine.specs.State.{store_in, Becomes};
+ghost use Rattle.js_machine.specs.private.Config.{View, view_of, name_of, action_comp, action_weight, control_comp, control_weight};
+ghost use Rattle.js_machine.specs.private.Done.{Assigned, Thrown, error_made, fault_kind, fault_message};
+ghost use Rattle.js_machine.specs.private.Errors.{HoldsErrors};
+ghost use Rattle.js_machine.specs.private.State.{store_in, Becomes};
 
 use crate::data::{Action, Control, Entry, Fault};
 use crate::state::State;
 use items::{Items, Memory};
 use js_code::{Code, Node};
 use js_heap::{Assign, Env, Flags, Heap, ObjectKind};
-use js_host::{ErrorKind, ascii, error_prototype};
+use js_host::{ascii, error_prototype};
 use js_meaning::Completion;
 use js_tree::Name;
-use js_value::{Object, Primitive, Str, Value};
+use js_value::{ErrorKind, Object, Primitive, Str, Value};
 use std::alloc::Global;
 
 // The value of a name, or the error that there is none.
@@ -85,7 +84,7 @@ pub(crate) fn call(heap: &Heap, callee: Object, this: Value, arguments: Items<Va
 
 // The kind and the message of an error.
 fn told(fault: Fault) -> (ErrorKind, &'static [u8])
-    ensures kind { plain_error_kind result.0 ≡ fault_kind fault }
+    ensures kind { result.0 ≡ fault_kind fault }
     ensures message { result.1.now ≡ fault_message fault }
 {
     match fault {
@@ -105,7 +104,7 @@ pub(crate) fn make_error(
 ) -> Result<Object, Memory>
     requires { HoldsErrors (store_of heap.old) }
     ensures errors { HoldsErrors (store_of heap.new) }
-    ensures made { OnOk result (store_of heap.new ≡ error_made (plain_error_kind kind) key.now message (store_of heap.old)) }
+    ensures made { OnOk result (store_of heap.new ≡ error_made kind key.now message (store_of heap.old)) }
     ensures object { IfOk result (λ object. object.index ≡ next_object (store_of heap.old)) }
 {
     let object = heap.object(ObjectKind::Error, Some(error_prototype(kind)))?;
@@ -246,7 +245,7 @@ pub(crate) fn throw_error(
 ) -> Result<Control, Memory>
     requires { HoldsErrors (store_of heap.old) }
     ensures made { OnOk result (store_of heap.new
-        ≡ error_made (plain_error_kind kind) (codes "message") message (store_of heap.old)) }
+        ≡ error_made kind (codes "message") message (store_of heap.old)) }
     ensures control { IfOk result (λ control. control ≡ Control.Give (Completion.Throw (object_of (next_object (store_of heap.old))))) }
     ensures errors { HoldsErrors (store_of heap.new) }
 {

@@ -2,9 +2,9 @@
 
 ghost use Rattle.std.specs.Prelude.{IfOk};
 ghost use Rattle.js_meaning.specs.Program.{Sources};
-ghost use Rattle.js_machine.specs.Config.{view_of};
-ghost use Rattle.js_machine.specs.Moves.{here, rest_control};
-ghost use Rattle.js_machine.specs.Runs.{Runs};
+ghost use Rattle.js_machine.specs.private.Config.{view_of};
+ghost use Rattle.js_machine.specs.private.Moves.{here, rest_control};
+ghost use Rattle.js_machine.specs.private.Runs.{Runs};
 
 use crate::advance::{advance, apply};
 use crate::data::{Control, Frame, Rest};

@@ -3,9 +3,9 @@
 ghost use Rattle.std.specs.Prelude.{◌≡◌, IfOk};
 ghost use Rattle.js_value.specs.State.{Store};
 ghost use Rattle.js_meaning.specs.World.{end_of as end_of_outcome, end_of_completion as completion_end};
-ghost use Rattle.js_machine.specs.Moves.{rest_control as control_of};
-ghost use Rattle.js_machine.specs.Runs.{rest_outcome};
-ghost use Rattle.js_machine.specs.State.{store_in};
+ghost use Rattle.js_machine.specs.private.Moves.{rest_control as control_of};
+ghost use Rattle.js_machine.specs.private.Runs.{rest_outcome};
+ghost use Rattle.js_machine.specs.private.State.{store_in};
 
 use crate::data::{Control, Rest};
 use crate::shown::shown;

@@ -1,5 +1,5 @@
 ghost use Rattle.js_heap.specs.Heap.{store_of};
-ghost use Rattle.js_machine.specs.Errors.{HoldsErrors};
+ghost use Rattle.js_machine.specs.private.Errors.{HoldsErrors};
 
 use js_heap::Heap;
 

@@ -1,12 +1,12 @@
 // What each node begins with, and how what waits goes on.
 
-ghost use Rattle.std.specs.Prelude.{◌≡◌, ℕ, ◌<◌, [], IfOk};
-ghost use Rattle.js_code.specs.Node.{build_expr, build_exprs, build_stmt, build_stmts, build_declarators, stmt_if};
+ghost use Rattle.std.specs.Prelude.{◌≡◌, ◌<◌, [], IfOk};
+ghost use Rattle.js_code.specs.Node.{build_expr, build_exprs, build_stmt, build_stmts, build_declarators};
 ghost use Rattle.js_meaning.specs.Marks.{Unmarked};
-ghost use Rattle.js_meaning.specs.Meaning.{number as number_comp, call, comp_expr, comp_arguments, comp_declarators, comp_stmt, comp_stmts, comp_stmt_if, operated};
+ghost use Rattle.js_meaning.specs.Meaning.{number as number_comp, call, comp_expr, comp_arguments, comp_declarators, comp_stmt, comp_stmts, operated};
 ghost use Rattle.js_value.specs.Operators.{has_answer};
-ghost use Rattle.js_machine.specs.Weight.{weight_expr, weight_exprs, weight_declarators, weight_stmt, weight_stmts, weight_stmt_if};
-ghost use Rattle.js_machine.specs.Config.{View, name_of, step_comp, step_weight, control_comp, control_weight, pending_comp, pending_weight, frame_comp, frame_weight};
+ghost use Rattle.js_machine.specs.private.Weight.{weight_expr, weight_exprs, weight_declarators, weight_stmt, weight_stmts};
+ghost use Rattle.js_machine.specs.private.Config.{View, name_of, step_comp, step_weight, control_comp, control_weight, pending_comp, pending_weight, frame_comp, frame_weight};
 
 use crate::data::{Action, Control, Entry, Fault, Frame, Pending, Step};
 use items::{Items, Memory};

@@ -19,7 +19,9 @@ use Rattle.js_value.specs.State.{ObjectKind, Plain, Array, Error, RegExp, BuiltI
 use Rattle.js_value.specs.Objects.{kind_of, next_object}
 use Rattle.js_value.specs.Environments as environments
 use Rattle.js_value.specs.Environments.{Cell, lookup, value_of, assign_answer, Assign, Done, Dead, Constant, declare, next_environment, new_environment}
-use Rattle.js_value.specs.Realm.{ErrorKind, TypeError, ReferenceError, undefined, global_environment}
+use Rattle.js_value.specs.declared.error_kind.ErrorKind.{ErrorKind}
+use Rattle.js_value.specs.declared.error_kind.ErrorKind.TheVariants.{TypeError, ReferenceError}
+use Rattle.js_value.specs.Realm.{undefined, global_environment}
 use Rattle.js_value.specs.Host.{Native, Answers, Throws, Refuses as RefusesKind, Writes, Calls, Requires, native_of, native_store}
 use Rattle.js_meaning.specs.declared.outcome.Completion.{Completion}
 use Rattle.js_meaning.specs.declared.outcome.Completion.TheVariants as completion

@@ -23,8 +23,10 @@ use Rattle.js_value.specs.Operators.{Answer, Gives, Refuses, binary, to_boolean,
 use Rattle.js_value.specs.State.{ObjectKind, Plain, Array, Error, RegExp, BuiltIn, Written, Store}
 use Rattle.js_value.specs.Objects.{kind_of, next_object, new_object, define}
 use Rattle.js_value.specs.Environments.{Cell, lookup, value_of, assign_answer, assign, Assign, Done, Dead, Constant}
+use Rattle.js_value.specs.declared.error_kind.ErrorKind.{ErrorKind}
+use Rattle.js_value.specs.declared.error_kind.ErrorKind.TheVariants.{TypeError, ReferenceError}
 use Rattle.js_value.specs.Realm as realm
-use Rattle.js_value.specs.Realm.{ErrorKind, TypeError, ReferenceError, error_prototype, hidden, text, object, undefined}
+use Rattle.js_value.specs.Realm.{error_prototype, hidden, text, object, undefined}
 use Rattle.js_meaning.specs.declared.outcome.Completion.{Completion}
 use Rattle.js_meaning.specs.declared.outcome.Completion.TheVariants.{Normal, Break, Continue, Return, Throw}
 use Rattle.js_meaning.specs.Marks.{Marks, Unmarked, Marked, after}

@@ -4,7 +4,8 @@ use Rattle.js_value.specs.declared.value.Value.{Value}
 use Rattle.js_value.specs.declared.value.Kind.{Kind}
 use Rattle.js_value.specs.State.{Store}
 use Rattle.js_value.specs.Operators.{Texted, Reads, NoText, to_text}
-use Rattle.js_value.specs.Realm.{ErrorKind, TypeError}
+use Rattle.js_value.specs.declared.error_kind.ErrorKind.{ErrorKind}
+use Rattle.js_value.specs.declared.error_kind.ErrorKind.TheVariants.{TypeError}
 
 -- a value, an error that is thrown, a refusal, bytes for the output with the value undefined, a call that takes the place of
 -- this one, or a text that is required

@@ -1,5 +1,5 @@
 -- Which keys of properties are indices (ECMA-262, 6.1.7), and the order of keys (10.1.11).
-use Rattle.std.specs.Prelude.{ℕ, zero, suc, ◌+◌, ◌*◌, ◌-◌, ◌^◌, ◌/◌, ◌%◌, Bool, true, false, ◌&&◌, ◌||◌, List, [], ◌∷◌, ◌++◌, Option, Some, None, nat_lt, nat_le, nat_eq, if◌then◌else◌, codes}
+use Rattle.std.specs.Prelude.{ℕ, ◌+◌, ◌*◌, ◌-◌, ◌^◌, Bool, ◌&&◌, List, [], ◌∷◌, ◌++◌, Option, Some, None, nat_lt, nat_le, nat_eq, if◌then◌else◌}
 use Rattle.js_value.specs.State.{Property}
 
 -- the value of a decimal digit

@@ -1,6 +1,8 @@
 -- What stands when a program begins (ECMA-262, 9.3): the global object, the built-in objects, each at its place, and the names
 -- that a file can refer to.
-use Rattle.std.specs.Prelude.{ℕ, Bool, true, false, List, [], ◌∷◌, Option, Some, None, codes, pos}
+use Rattle.std.specs.Prelude.{ℕ, true, false, List, [], ◌∷◌, Option, Some, None, codes, pos}
+use Rattle.js_value.specs.declared.error_kind.ErrorKind.{ErrorKind}
+use Rattle.js_value.specs.declared.error_kind.ErrorKind.TheVariants.{Error, TypeError, RangeError, ReferenceError, SyntaxError}
 use Rattle.js_value.specs.declared.value.Value.{Value}
 use Rattle.js_value.specs.declared.value.Value.TheVariants as value
 use Rattle.js_value.specs.declared.value.Primitive.TheVariants as primitive
@@ -18,14 +20,6 @@ global_object = 1
 -- 20.2.3
 abbrev pub function_prototype : ℕ
 function_prototype = 2
-
--- the errors that the engine makes (20.5.1, 20.5.5)
-pub data ErrorKind : Type 0 where
-  Error : ErrorKind
-  TypeError : ErrorKind
-  RangeError : ErrorKind
-  ReferenceError : ErrorKind
-  SyntaxError : ErrorKind
 
 -- 20.5.3 and 20.5.6.3
 abbrev pub error_prototype : ErrorKind → ℕ

@@ -1,16 +1,17 @@
 -- Worked examples of what is done with objects and environments.
-use Rattle.std.specs.Prelude.{◌≡◌, ℕ, suc, ◌&&◌, nat_lt, Bool, true, false, List, [], ◌∷◌, map, Option, Some, None, codes, pos, negsuc}
+use Rattle.std.specs.Prelude.{◌≡◌, ℕ, suc, ◌&&◌, nat_lt, Bool, true, false, List, [], ◌∷◌, map, Some, None, codes, pos, negsuc}
 use Rattle.js_value.specs.declared.value.Value.{Value}
 use Rattle.js_value.specs.declared.value.Value.TheVariants as value
 use Rattle.js_value.specs.declared.value.Primitive.TheVariants as primitive
 use Rattle.js_value.specs.declared.value.Kind.TheVariants as kind
-use Rattle.js_value.specs.State.{Plain, Array, Property, ObjectRecord, Store}
+use Rattle.js_value.specs.State.{Plain, ObjectRecord, Store}
 use Rattle.js_value.specs.Key.{Key, index_of}
-use Rattle.js_value.specs.Objects.{new_object, new_array, next_object, get, own, keys, define, freeze, set, set_answer, Set, Done, IsReadOnly, IsSparse, IsBadLength, delete, delete_answer, Delete, Deleted, IsFrozen, LeavesHole, assigned}
+use Rattle.js_value.specs.Objects.{new_object, new_array, get, own, keys, define, freeze, set, set_answer, Done, IsReadOnly, IsSparse, IsBadLength, delete, delete_answer, Deleted, IsFrozen, LeavesHole, assigned}
 use Rattle.js_value.specs.Environments as environments
-use Rattle.js_value.specs.Environments.{Cell, new_environment, next_environment, declare, lookup, value_of, assign_answer, assign}
-use Rattle.js_value.specs.Realm.{realm, fixed, object, object_prototype, error_prototype, TypeError, print_function, text, undefined, global_environment}
-use Rattle.js_value.specs.Host.{Native, Writes, Refuses, native_of}
+use Rattle.js_value.specs.Environments.{Cell, new_environment, declare, lookup, value_of, assign_answer, assign}
+use Rattle.js_value.specs.declared.error_kind.ErrorKind.TheVariants.{TypeError}
+use Rattle.js_value.specs.Realm.{realm, fixed, object, object_prototype, error_prototype, print_function, text, undefined, global_environment}
+use Rattle.js_value.specs.Host.{Writes, Refuses, native_of}
 
 abbrev pub number : ℕ → Value
 number n = value.Primitive (primitive.Number (pos n))

@@ -3,6 +3,7 @@
 #![tactic(auto)]
 
 mod digits;
+mod error_kind;
 mod examples;
 mod numbers;
 mod operators;
@@ -10,6 +11,7 @@ mod store_rows;
 mod text_number;
 mod value;
 
+pub use error_kind::ErrorKind;
 pub use examples::examples_hold;
 pub use numbers::{number_of, show_number};
 pub use operators::{binary, compare, to_boolean, to_number, to_text};

@@ -1,4 +1,6 @@
-use Rattle.std.proofs.Common.{◌++◌, take, arith}
+use Rattle.std.proofs.Common.{◌≡◌, ◌++◌, take, Err, ap, arith}
+use Rattle.std.proofs.lemmas.Result.{err_from_is_err_and}
+use Rattle.cov_base.specs.declared.failed.Failed.TheVariants.{Memory}
 use Rattle.cov_base.proofs.Taken.{after_more-next, split-more, TakesPrefix-before}
 use Rattle.cov_base.proofs.sink.write_all.Goals as goal
 
@@ -19,3 +21,10 @@ loop-rest-preserved g c =
         later = omega (arith, so_far.later, wrote.cause.later);
       },
     )
+
+pub returns-in_err-count-clause-memory : goal.returns-in_err-count-clause-memory
+returns-in_err-count-clause-memory g c = λ e.
+    let so_far = c.loop-rest.invariant.1 in
+    let passed = err_from_is_err_and c.from_residual.result c.from_residual.ensures.1 in
+    let is : c.in_err-count.field-0.0 ≡ Memory = cc in
+    (c.loop-rest.sink, c.loop-rest.invariant.0, c.loop-rest.rest.now, so_far.split, so_far.taken, c.in_err-count.ensures.memory (ap Err is))

@@ -10,6 +10,6 @@ returns-clause-end c =
 
 pub returns-clause-output : goal.returns-clause-output
 returns-clause-output c =
-    c.from_vec.ensures ∙ c.in_ok-output.ensures.items ∙ c.output.ensures
+    c.into_output.ensures
     ∙ prints_so c.args.path.now (plain_file c.args.tree) c.args.turns c.in_ok-machine.machine c.run.new.self c.in_ok-end.end
     c.in_ok-machine.ensures c.in_ok-end.ensures.goes c.in_ok-end.ensures.given

@@ -1,7 +1,7 @@
 use Rattle.std.proofs.Common.{drop}
 use Rattle.js_tree.specs.Tree.{plain_stmts}
 use Rattle.js_code.specs.Code.{ReadsStmts}
-use Rattle.js_code.specs.Push.{Grows}
+use Rattle.js_code.specs.private.Push.{Grows}
 use Rattle.js_code.proofs.statements.+statements.Given as goal
 
 abbrev pub invariant-stmts-loop-index : goal.invariant-stmts-loop-index

@@ -1,7 +1,7 @@
 use Rattle.std.proofs.Common.{subst}
 use Rattle.js_machine.specs.declared.data.Move.TheVariants.{Next, At}
-use Rattle.js_machine.specs.Config.{view_of}
-use Rattle.js_machine.specs.Moves.{here, Moves}
+use Rattle.js_machine.specs.private.Config.{view_of}
+use Rattle.js_machine.specs.private.Moves.{here, Moves}
 use Rattle.js_machine.proofs.Moves.{leads_none, leads_on, rests_at}
 use Rattle.js_machine.proofs.advance.advance.Goals as goal
 

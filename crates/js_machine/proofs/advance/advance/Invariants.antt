@@ -1,6 +1,6 @@
 -- What was done leads here.
-use Rattle.js_machine.specs.Config.{view_of}
-use Rattle.js_machine.specs.Moves.{here, Leads, work}
+use Rattle.js_machine.specs.private.Config.{view_of}
+use Rattle.js_machine.specs.private.Moves.{here, Leads, work}
 use Rattle.js_machine.proofs.advance.advance.Given as goal
 
 abbrev pub invariant-loop-next : goal.invariant-loop-next

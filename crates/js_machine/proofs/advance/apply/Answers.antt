@@ -1,5 +1,5 @@
 use Rattle.std.proofs.Common.{sym, ap, ◌∙◌, arith}
-use Rattle.js_machine.specs.Config.{control_comp, step_comp, step_weight, frames_weight, plug}
+use Rattle.js_machine.specs.private.Config.{control_comp, step_comp, step_weight, frames_weight, plug}
 use Rattle.js_machine.proofs.Plug.{plug_push, frames_weight-push}
 use Rattle.js_machine.proofs.advance.apply.Goals as goal
 

@@ -2,8 +2,8 @@ use Rattle.std.proofs.Common.{sym, ap, ◌∙◌, ◌<◌, subst, arith}
 use Rattle.js_code.specs.declared.node.Node.TheVariants.{NoStatement}
 use Rattle.js_meaning.specs.Marks.{Unmarked}
 use Rattle.js_meaning.specs.Meaning.{comp_declarators}
-use Rattle.js_machine.specs.Weight.{weight_declarators}
-use Rattle.js_machine.specs.Config.{view_of, step_comp, step_weight, name_of}
+use Rattle.js_machine.specs.private.Weight.{weight_declarators}
+use Rattle.js_machine.specs.private.Config.{view_of, step_comp, step_weight, name_of}
 use Rattle.js_machine.proofs.Places.{declarators_at}
 use Rattle.js_machine.proofs.advance.declare.Goals as goal
 

@@ -3,8 +3,8 @@ use Rattle.std.proofs.lemmas.Result.{IfOk-weaker}
 use Rattle.js_code.specs.declared.node.Node.TheVariants.{NoStatement}
 use Rattle.js_meaning.specs.Marks.{Unmarked}
 use Rattle.js_meaning.specs.Meaning.{comp_expr}
-use Rattle.js_machine.specs.Weight.{weight_expr}
-use Rattle.js_machine.specs.Config.{view_of, step_comp, step_weight, name_of}
+use Rattle.js_machine.specs.private.Weight.{weight_expr}
+use Rattle.js_machine.specs.private.Config.{view_of, step_comp, step_weight, name_of}
 use Rattle.js_machine.proofs.Places.{expr_at}
 use Rattle.js_machine.proofs.advance.evaluate.Goals as goal
 

@@ -2,8 +2,8 @@ use Rattle.std.proofs.Common.{sym, ap, ◌∙◌, ◌<◌, subst}
 use Rattle.js_code.specs.declared.node.Node.TheVariants.{NoStatement}
 use Rattle.js_meaning.specs.Marks.{Unmarked}
 use Rattle.js_meaning.specs.Meaning.{comp_stmts}
-use Rattle.js_machine.specs.Weight.{weight_stmts}
-use Rattle.js_machine.specs.Config.{view_of, step_comp, step_weight}
+use Rattle.js_machine.specs.private.Weight.{weight_stmts}
+use Rattle.js_machine.specs.private.Config.{view_of, step_comp, step_weight}
 use Rattle.js_machine.proofs.Places.{stmts_at}
 use Rattle.js_machine.proofs.advance.execute_all.Goals as goal
 

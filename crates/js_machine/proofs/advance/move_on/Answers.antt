@@ -1,5 +1,5 @@
 use Rattle.std.proofs.Common.{ap}
-use Rattle.js_machine.specs.Config.{view_of}
+use Rattle.js_machine.specs.private.Config.{view_of}
 use Rattle.js_machine.proofs.Moves.{begins, resumes, step_moves, perform_moves, Stepped}
 use Rattle.js_machine.proofs.advance.move_on.Goals as goal
 use Rattle.js_machine.proofs.advance.move_on.Goals.{in-Evaluate+in_ok-step-in-Evaluate, in-Execute, in-ExecuteAll, in-Declare, in-Initialize, in-Gather, in-Give+in-Some+in_ok-step-in-Some}

@@ -1,4 +1,4 @@
-use Rattle.js_machine.specs.State.{store_in}
+use Rattle.js_machine.specs.private.State.{store_in}
 use Rattle.js_machine.proofs.Natives.{calls_becomes, requires_becomes}
 use Rattle.js_machine.proofs.enter.answer.Goals as goal
 

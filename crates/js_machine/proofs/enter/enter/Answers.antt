@@ -1,7 +1,7 @@
 use Rattle.std.proofs.Common.{refl, ap, ◌∙◌, false}
 use Rattle.js_value.specs.Host.{native_of}
 use Rattle.js_heap.specs.Heap.{store_of}
-use Rattle.js_machine.specs.State.{store_in}
+use Rattle.js_machine.specs.private.State.{store_in}
 use Rattle.js_machine.proofs.Natives.{call_entered, built_in_entered}
 use Rattle.js_machine.proofs.Kept.{errors_kept}
 use Rattle.js_machine.proofs.enter.enter.Goals as goal

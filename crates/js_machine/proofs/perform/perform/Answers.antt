@@ -1,6 +1,6 @@
 use Rattle.std.proofs.Common.{refl}
 use Rattle.js_heap.specs.Heap.{store_of}
-use Rattle.js_machine.specs.Config.{view_of}
+use Rattle.js_machine.specs.private.Config.{view_of}
 use Rattle.js_machine.proofs.Acts.{performs_read, performs_write}
 use Rattle.js_machine.proofs.Kept.{errors_kept}
 use Rattle.js_machine.proofs.perform.perform.Goals as goal

@@ -2,7 +2,7 @@ use Rattle.std.proofs.Common.{subst, sym, refl}
 use Rattle.std.proofs.lemmas.Bool.{false≢true}
 use Rattle.js_heap.specs.Heap.{store_of}
 use Rattle.js_meaning.specs.Meaning.{not_defined}
-use Rattle.js_machine.specs.Done.{AssignedTo}
+use Rattle.js_machine.specs.private.Done.{AssignedTo}
 use Rattle.js_machine.proofs.Outside.{lookup_outside}
 use Rattle.js_machine.proofs.perform.write_anywhere.Goals as goal
 

@@ -1,7 +1,7 @@
 use Rattle.std.proofs.Common.{subst, sym, ◌∙◌, IfOk}
 use Rattle.js_heap.specs.Heap.{store_of}
-use Rattle.js_machine.specs.Config.{View, control_comp}
-use Rattle.js_machine.specs.Done.{Assigned}
+use Rattle.js_machine.specs.private.Config.{View, control_comp}
+use Rattle.js_machine.specs.private.Done.{Assigned}
 use Rattle.js_machine.proofs.perform.write_at.Goals as goal
 
 pub returns-in-Some-clause-means : goal.returns-in-Some-clause-means

@@ -1,7 +1,7 @@
 use Rattle.std.proofs.Common.{rules, ◌≡◌}
 use Rattle.std.proofs.lemmas.Result.{IfOk-weaker}
-use Rattle.js_machine.specs.Config.{view_of}
-use Rattle.js_machine.specs.Moves.{here}
+use Rattle.js_machine.specs.private.Config.{view_of}
+use Rattle.js_machine.specs.private.Moves.{here}
 use Rattle.js_machine.proofs.Runs.{takes_none, takes_enter, runs_over, runs_out}
 use Rattle.js_machine.proofs.run.run_on.Goals as goal
 

@@ -1,8 +1,8 @@
 -- As many steps as were taken lead here.
 use Rattle.js_meaning.specs.Program.{Sources}
-use Rattle.js_machine.specs.Config.{view_of}
-use Rattle.js_machine.specs.Moves.{here}
-use Rattle.js_machine.specs.Runs.{Takes}
+use Rattle.js_machine.specs.private.Config.{view_of}
+use Rattle.js_machine.specs.private.Moves.{here}
+use Rattle.js_machine.specs.private.Runs.{Takes}
 use Rattle.js_machine.proofs.run.run_on.Given as goal
 
 abbrev pub invariant-loop : goal.invariant-loop

@@ -1,7 +1,7 @@
 use Rattle.std.proofs.Common.{sym, ap, ◌∙◌}
 use Rattle.js_meaning.specs.World.{end_of_completion}
 use Rattle.js_meaning.specs.declared.outcome.End.TheVariants.{Threw}
-use Rattle.js_machine.specs.State.{store_in}
+use Rattle.js_machine.specs.private.State.{store_in}
 use Rattle.js_machine.proofs.ShownIn.{shown_in}
 use Rattle.js_machine.proofs.settle.end_of_completion.Goals as goal
 

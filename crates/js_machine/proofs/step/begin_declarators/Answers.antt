@@ -1,5 +1,5 @@
 use Rattle.std.proofs.Common.{refl, ap, ◌∙◌}
-use Rattle.js_machine.specs.Config.{name_of}
+use Rattle.js_machine.specs.private.Config.{name_of}
 use Rattle.js_machine.proofs.step.begin_declarators.Goals as goal
 
 pub returns-in-Some-clause-means : goal.returns-in-Some-clause-means

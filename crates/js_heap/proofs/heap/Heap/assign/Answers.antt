@@ -2,7 +2,7 @@ use Rattle.std.proofs.Common.{ap}
 use Rattle.js_value.specs.Environments.{no_environment}
 use Rattle.js_heap.specs.Environment.{plain_environment}
 use Rattle.js_heap.specs.Heap.{store_of}
-use Rattle.js_heap.specs.Environment.{with_assigned}
+use Rattle.js_heap.specs.private.Environment.{with_assigned}
 use Rattle.js_heap.proofs.Lists.{map-set_by}
 use Rattle.js_heap.proofs.Older.{outers-set}
 use Rattle.js_heap.proofs.heap.Heap.assign.Goals as goal

@@ -2,7 +2,7 @@ use Rattle.std.proofs.Common.{ap, ◌∙◌}
 use Rattle.js_value.specs.Environments.{no_environment}
 use Rattle.js_heap.specs.Environment.{plain_environment}
 use Rattle.js_heap.specs.Heap.{store_of}
-use Rattle.js_heap.specs.Environment.{with_declared}
+use Rattle.js_heap.specs.private.Environment.{with_declared}
 use Rattle.js_heap.proofs.Lists.{map-set_by, map-set_same}
 use Rattle.js_heap.proofs.Older.{outers-set}
 use Rattle.js_heap.proofs.Outcomes.{OnErr_always}

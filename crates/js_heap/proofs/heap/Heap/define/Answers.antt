@@ -2,7 +2,7 @@ use Rattle.std.proofs.Common.{ap, ◌∙◌}
 use Rattle.js_value.specs.Objects.{no_object}
 use Rattle.js_heap.specs.Object.{plain_object, property_with}
 use Rattle.js_heap.specs.Heap.{store_of}
-use Rattle.js_heap.specs.Object.{with_defined}
+use Rattle.js_heap.specs.private.Object.{with_defined}
 use Rattle.js_heap.proofs.Lists.{map-set_by, map-set_same}
 use Rattle.js_heap.proofs.Older.{prototypes-set}
 use Rattle.js_heap.proofs.Outcomes.{OnOk_then, OnErr_then}

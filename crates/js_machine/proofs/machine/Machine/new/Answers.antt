@@ -2,7 +2,7 @@ use Rattle.std.proofs.Common.{ap, subst, ◌∙◌}
 use Rattle.js_tree.specs.Tree.{plain_file, plain_stmts}
 use Rattle.js_meaning.specs.Language.{is_said_file}
 use Rattle.js_meaning.specs.Program.{source_of, sources_of}
-use Rattle.js_machine.specs.Opening.{Opens}
+use Rattle.js_machine.specs.private.Opening.{Opens}
 use Rattle.js_machine.proofs.FileBegins.{begins, said_at}
 use Rattle.js_machine.proofs.machine.Machine.new.Goals as goal
 

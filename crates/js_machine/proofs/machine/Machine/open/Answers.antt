@@ -1,5 +1,5 @@
 use Rattle.std.proofs.Common.{sym, subst}
-use Rattle.js_machine.specs.Errors.{HoldsErrors}
+use Rattle.js_machine.specs.private.Errors.{HoldsErrors}
 use Rattle.js_machine.proofs.Opened.{opened_holds}
 use Rattle.js_machine.proofs.machine.Machine.open.Goals as goal
 

@@ -1,7 +1,7 @@
 use Rattle.std.proofs.Common.{◌≡◌, ◌+◌, false, refl, sym, subst, ◌∙◌}
-use Rattle.js_machine.specs.Config.{view_of}
-use Rattle.js_machine.specs.Moves.{here, rest_control}
-use Rattle.js_machine.specs.Runs.{Runs}
+use Rattle.js_machine.specs.private.Config.{view_of}
+use Rattle.js_machine.specs.private.Moves.{here, rest_control}
+use Rattle.js_machine.specs.private.Runs.{Runs}
 use Rattle.js_machine.specs.Whole.{Whole, Goes}
 use Rattle.js_machine.proofs.Goes.{goes}
 use Rattle.js_machine.proofs.machine.Machine.run.Goals as goal

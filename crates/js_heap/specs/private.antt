@@ -1,0 +1,3 @@
+-- What the contracts of private functions name: no reader has to believe it.
+pub mod Environment
+pub mod Object

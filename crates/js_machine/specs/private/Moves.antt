@@ -1,0 +1,57 @@
+-- Where the machine is, and what a transition does.
+use Rattle.std.specs.Prelude.{◌≡◌, ℕ, ◌+◌, ◌<◌, List, []}
+use Rattle.js_value.specs.State.{Store}
+use Rattle.js_meaning.specs.Effects as E
+use Rattle.js_meaning.specs.Effects.{Comp, exec}
+use Rattle.js_machine.specs.declared.data.Control.{Control}
+use Rattle.js_machine.specs.declared.data.Control.TheVariants as control
+use Rattle.js_machine.specs.declared.data.Frame.{Frame}
+use Rattle.js_machine.specs.declared.data.Rest.{Rest}
+use Rattle.js_machine.specs.declared.data.Rest.TheVariants as rest
+use Rattle.js_machine.specs.declared.data.Move.{Move}
+use Rattle.js_machine.specs.declared.data.Move.TheVariants as move
+use Rattle.js_machine.specs.declared.state.State.{State}
+use Rattle.js_machine.specs.private.Config.{View, control_comp, control_weight, frames_weight, plug}
+use Rattle.js_machine.specs.private.State.{store_in}
+
+-- what waits, what is next, and what the program can change
+pub record Here : Type 0 where
+  pub frames : List Frame
+  pub control : Control
+  pub state : State
+
+-- all that is left to do
+abbrev pub todo : View → Here → Comp
+todo t h = plug t h.frames (control_comp t h.control)
+
+-- with any steps left, and whatever else is in the store, both do the same
+pub record Leads (t : View) (a b : Here) : Type 0 where
+  pub same : (base : Store) (inside : E.Entry → Comp) (n : ℕ) →
+      exec inside n (todo t a) (store_in base a.state) ≡ exec inside n (todo t b) (store_in base b.state)
+
+-- the work that is left up to the next step that is asked for
+abbrev pub work : View → Here → ℕ
+work t h = frames_weight t h.frames + control_weight t h.control
+
+-- where the machine can't go on by itself; where it is done, nothing waits
+abbrev pub IsAt : Rest → Control → List Frame → Type 0
+IsAt (rest.Completed c) next fs = (next ≡ control.Give c) × (fs ≡ [])
+IsAt (rest.Refused k) next fs = next ≡ control.Refuse k
+IsAt (rest.Asks e) next fs = next ≡ control.Enter e
+
+abbrev pub rest_control : Rest → Control
+rest_control (rest.Completed c) = control.Give c
+rest_control (rest.Refused k) = control.Refuse k
+rest_control (rest.Asks e) = control.Enter e
+
+abbrev pub here : List Frame → Control → State → Here
+here frames next state = record { frames = frames; control = next; state = state }
+
+-- a transition leads on and leaves less work, or the machine can't go on by itself and nothing changes
+abbrev pub Moves : View → Here → Move → List Frame → State → Type 0
+Moves t h (move.Next c) fs s = Leads t h (here fs c s) × (work t (here fs c s) < work t h)
+Moves t h (move.At r) fs s = IsAt r h.control fs × (fs ≡ h.frames) × (s ≡ h.state)
+
+-- transitions lead to where the machine can't go on by itself
+abbrev pub Rests : View → Here → Rest → List Frame → State → Type 0
+Rests t h r fs s = Leads t h (here fs (rest_control r) s) × IsAt r (rest_control r) fs
