@@ -1,4 +1,3 @@
-pub mod DeclaredNames
 pub mod Later
 pub mod Places
 pub mod Pushed

@@ -8,8 +8,8 @@ use Rattle.js_tree.specs.Plain as P
 use Rattle.js_tree.specs.Plain.{Expr, IdentifierReference, This, NullLiteral, BooleanLiteral, NumericLiteral, StringLiteral, ArrayLiteral, ObjectLiteral, FunctionExpression, ArrowFunction, RegularExpressionLiteral, TemplateLiteral, Parenthesized, NamedMember, ComputedMember, New, PostfixUpdate, PrefixUpdate, Unary, Binary, Logical, Conditional, Assignment, Comma, Exprs, no_expr, more_expr}
 use Rattle.js_tree.specs.Plain.{Stmt, Directive, Block, VariableDeclaration, Empty, Expression, If, DoWhile, While, For, ForIn, ForOf, Continue, Break, Return, Switch, Labelled, Throw, TryCatch, TryFinally, TryCatchFinally, Debugger, FunctionDeclaration, Stmts, no_stmt, more_stmt, MaybeStmt, none_stmt, some_stmt}
 use Rattle.js_tree.specs.Plain.{Declarator, MakeDeclarator, Declarators, no_declarator, more_declarator, Pattern, BindingIdentifier, MaybeExpr, none_expr, some_expr, MakeFile}
-use Rattle.js_tree.specs.Constructs as C
-use Rattle.js_tree.specs.Constructs.{constructs_expr, constructs_stmt, constructs_declarator, counted, if_branch, bare_place}
+use Rattle.js_tree.specs.declared.construct.Construct as C
+use Rattle.js_walk.specs.Constructs.{constructs_expr, constructs_stmt, constructs_declarator, counted, if_branch, bare_place}
 use Rattle.js_value.specs.declared.value.Value.{Value}
 use Rattle.js_value.specs.declared.value.Value.TheVariants as value
 use Rattle.js_value.specs.declared.value.Primitive.{Primitive}

@@ -6,7 +6,7 @@ use Rattle.js_value.specs.Operators.{to_boolean}
 use Rattle.js_value.specs.State.{Store}
 use Rattle.js_meaning.specs.declared.outcome.Completion.{Completion}
 use Rattle.js_meaning.specs.declared.outcome.Completion.TheVariants.{Normal, Break, Continue, Return, Throw}
-use Rattle.js_tree.specs.Constructs.{constructs_expr}
+use Rattle.js_walk.specs.Constructs.{constructs_expr}
 use Rattle.js_value.specs.Realm.{undefined}
 use Rattle.js_meaning.specs.Marks.{Unmarked, after}
 use Rattle.js_meaning.specs.Effects.{Entry, WhileTurn, Comp, ret, refuse, act, enter, handle}

@@ -1,8 +1,8 @@
 -- What a reader expects of the meaning, as laws.
 use Rattle.std.specs.Prelude.{◌≡◌, ℕ, zero, suc, ◌+◌, Bool, true, false, List, [], ◌∷◌, ◌++◌, Option, Some, None, if◌then◌else◌}
 use Rattle.js_tree.specs.Plain.{Expr, Stmt, Stmts, MaybeStmt, more_stmt, While, If}
-use Rattle.js_tree.specs.Constructs as C
-use Rattle.js_tree.specs.Constructs.{constructs_stmt, constructs_expr}
+use Rattle.js_tree.specs.declared.construct.Construct as C
+use Rattle.js_walk.specs.Constructs.{constructs_stmt, constructs_expr}
 use Rattle.js_value.specs.declared.value.Value.{Value}
 use Rattle.js_value.specs.Operators.{to_boolean}
 use Rattle.js_value.specs.State.{Store, Entered}

@@ -11,8 +11,8 @@ use Rattle.js_tree.specs.Plain as P
 use Rattle.js_tree.specs.Plain.{Expr, IdentifierReference, NullLiteral, BooleanLiteral, NumericLiteral, StringLiteral, Parenthesized, Binary, Assignment, Exprs, no_expr, more_expr}
 use Rattle.js_tree.specs.Plain.{Stmt, Directive, Block, VariableDeclaration, Empty, Expression, If, While, Stmts, no_stmt, more_stmt, MaybeStmt, none_stmt, some_stmt}
 use Rattle.js_tree.specs.Plain.{Declarator, MakeDeclarator, Declarators, no_declarator, more_declarator, Pattern, BindingIdentifier, MaybeExpr, none_expr, some_expr}
-use Rattle.js_tree.specs.Constructs as C
-use Rattle.js_tree.specs.Constructs.{constructs_expr, constructs_stmt, constructs_declarator, bare_place, counted, if_branch, counted_initializer}
+use Rattle.js_tree.specs.declared.construct.Construct as C
+use Rattle.js_walk.specs.Constructs.{constructs_expr, constructs_stmt, constructs_declarator, bare_place, counted, if_branch, counted_initializer}
 use Rattle.js_value.specs.declared.value.Value.{Value}
 use Rattle.js_value.specs.declared.value.Value.TheVariants as value
 use Rattle.js_value.specs.declared.value.Primitive.{Primitive}
