@@ -9,7 +9,8 @@ use Rattle.js_walk.specs.Constructs.{bare_place, stmt_place, counted, own_constr
 use Rattle.js_walk.specs.Walk.{within_exprs, within_declarators, within_stmts, walk_file}
 use Rattle.js_text.specs.Place.{Place}
 use Rattle.js_text.specs.Position.{position_of}
-use Rattle.js_text.specs.Token.{Goal, Kind, Token}
+use Rattle.js_text.specs.declared.goal.Goal.{Goal}
+use Rattle.js_text.specs.Token.{Kind, Token}
 use Rattle.js_text.specs.Lex.{token_after, token_of, token_place, gap_run, moved, next_token}
 use Rattle.js_text.specs.Grammar
 use Rattle.js_text.specs.Grammar.{through, SpellsExpr, reference, null_literal, true_literal, false_literal, number, string, parentheses, call, operation, assigns, SpellsArguments, no_argument, last_argument, more_arguments, SpellsDeclarator, plain, initialized, SpellsDeclarators, one, more, SpellsStmt, block, var, empty, expression, if_only, if_else, SpellsStmts, no_statement, more_statements, SpellsBody, directive, statements, Sentence, file}

@@ -3,7 +3,9 @@ use Rattle.std.proofs.Common.{◌≡◌, ℕ, ◌≤◌, List, ◌++◌, length,
 use Rattle.std.specs.Option.{option_map}
 use Rattle.std.specs.Str.{IsUtf8}
 use Rattle.js_text.specs.Place.{Place}
-use Rattle.js_text.specs.Token.{Goal, Div, Kind, Token}
+use Rattle.js_text.specs.declared.goal.Goal.{Goal}
+use Rattle.js_text.specs.declared.goal.Goal.TheVariants.{Div}
+use Rattle.js_text.specs.Token.{Kind, Token}
 use Rattle.js_text.specs.Lex.{moved, gap_run, token_place, token_of, token_after, next_token, characters_of}
 use Rattle.js_text.specs.Reads.{goal_of, Lexes, no_token, one_more, Reaches}
 use Rattle.js_parser.specs.Refused.{Because, RefusesText}

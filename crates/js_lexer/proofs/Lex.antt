@@ -7,9 +7,13 @@ use Rattle.std.proofs.lemmas.List.{length-drop}
 use Rattle.std.proofs.lemmas.Str.{encodes-append}
 use Rattle.js_text.specs.Place.{Place}
 use Rattle.js_text.specs.Character.{starts_identifier, is_digit}
-use Rattle.js_text.specs.Punctuator.{Punctuator, UnsignedShiftRightAssign, spelling_of, begins_with, begins_with_punctuator, punctuators, first_punctuator, longest_punctuator, is_taken}
+use Rattle.js_text.specs.declared.punctuator.Punctuator.{Punctuator}
+use Rattle.js_text.specs.declared.punctuator.Punctuator.TheVariants.{UnsignedShiftRightAssign}
+use Rattle.js_text.specs.Punctuator.{spelling_of, begins_with, begins_with_punctuator, punctuators, first_punctuator, longest_punctuator, is_taken}
 use Rattle.js_text.specs.Token as T
-use Rattle.js_text.specs.Token.{Goal, Div, RegExp, Template, Kind, Word, Numeral, StringLiteral, End, Token, spelling}
+use Rattle.js_text.specs.declared.goal.Goal.{Goal}
+use Rattle.js_text.specs.declared.goal.Goal.TheVariants.{Div, RegExp, Template}
+use Rattle.js_text.specs.Token.{Kind, Word, Numeral, StringLiteral, End, Token, spelling}
 use Rattle.js_text.specs.Lex.{common_token, token_of, token_of_run, numeral_of, string_of, string_rest, punctuator_of, ends_numeral, is_quote, word_run, numeral_run, moved, gap_run, token_place, token_after, next_token, offset_of, characters_of, Lex}
 use Rattle.js_text.proofs.Place.{place_at-here, length-encodes-append}
 use Rattle.js_lexer.proofs.Places.{characters_of-moved, encodes-take-drop}
@@ -131,19 +135,19 @@ take-begins_with (x ∷ text) (c ∷ cs) h =
     let more : length (x ∷ text) ≡ suc (length text) = omega arith in
     ap (λ n. take n (c ∷ cs)) more ∙ ap (λ y. y ∷ take (length text) cs) same ∙ ap (λ xs. x ∷ xs) (take-begins_with text cs parts.1)
 
-abbrev Begins : List ℕ → Option Punctuator → Type 0
-Begins cs None = Unit {0}
-Begins cs (Some p) = begins_with (spelling_of p) cs ≡ true
+abbrev StartsWith : List ℕ → Option Punctuator → Type 0
+StartsWith cs None = Unit {0}
+StartsWith cs (Some p) = begins_with (spelling_of p) cs ≡ true
 
-first_punctuator-begins : (ps : List Punctuator) (cs : List ℕ) → Begins cs (first_punctuator ps cs)
+first_punctuator-begins : (ps : List Punctuator) (cs : List ℕ) → StartsWith cs (first_punctuator ps cs)
 first_punctuator-begins [] cs = tt
 first_punctuator-begins (p ∷ ps) cs = by_test (begins_with_punctuator p cs) refl (first_punctuator-begins ps cs)
   where
-    by_test : (b : Bool) → begins_with_punctuator p cs ≡ b → Begins cs (first_punctuator ps cs) → Begins cs (cond b (Some p) (first_punctuator ps cs))
+    by_test : (b : Bool) → begins_with_punctuator p cs ≡ b → StartsWith cs (first_punctuator ps cs) → StartsWith cs (cond b (Some p) (first_punctuator ps cs))
     by_test true e rest = (and_parts _ _ e).0
     by_test false e rest = rest
 
-longest_punctuator-begins : (cs : List ℕ) → Begins cs (longest_punctuator cs)
+longest_punctuator-begins : (cs : List ℕ) → StartsWith cs (longest_punctuator cs)
 unfolding longest_punctuator
 longest_punctuator-begins cs = first_punctuator-begins punctuators cs
 
@@ -158,7 +162,7 @@ spelled-string : (cs : List ℕ) (rest : Option ℕ) → IsSpelled cs (string_of
 spelled-string cs None = tt
 spelled-string cs (Some n) = refl
 
-spelled-punctuator : (cs : List ℕ) (o : Option Punctuator) → Begins cs o → IsSpelled cs (punctuator_of o)
+spelled-punctuator : (cs : List ℕ) (o : Option Punctuator) → StartsWith cs o → IsSpelled cs (punctuator_of o)
 spelled-punctuator cs None h = tt
 spelled-punctuator cs (Some p) h = elim (is_taken p) as (λ b. IsSpelled cs (cond b (Some (T.Punctuator p, length (spelling_of p))) None)) [
   | true ↦ sym (ap encode_utf8_all (take-begins_with (spelling_of p) cs h) ∙ encodes-spelling_of p)

@@ -2,8 +2,9 @@
 use Rattle.std.proofs.Common.{◌≡◌, ℕ, zero, suc, ◌≤◌, nat_le, ◌&&◌, Bool, true, false, cond, List, [], ◌∷◌, length, slice_get, Some, refl, sym, ap, ◌∙◌, subst, arith}
 use Rattle.std.specs.List.{list_all}
 use Rattle.std.proofs.lemmas.Bool.{and_parts, leb-true}
-use Rattle.js_text.specs.Punctuator as P
-use Rattle.js_text.specs.Punctuator.{Punctuator, spelling_of, punctuators, begins_with_punctuator, first_punctuator, longest_punctuator}
+use Rattle.js_text.specs.declared.punctuator.Punctuator.TheVariants as P
+use Rattle.js_text.specs.declared.punctuator.Punctuator.{Punctuator}
+use Rattle.js_text.specs.Punctuator.{spelling_of, punctuators, begins_with_punctuator, first_punctuator, longest_punctuator}
 
 -- the place of each in the table
 abbrev place_of : Punctuator → ℕ

@@ -1,25 +1,17 @@
--- The code's tokens and goals, as those of the definition.
+-- The code's tokens, as those of the definition.
 use Rattle.std.specs.Prelude.{◌≡◌, ℕ, Bool, true, false, Option, None, Some}
-use Rattle.js_lexer.specs.declared.goal.Goal as code_goal
-use Rattle.js_lexer.specs.declared.goal.Goal.TheVariants as goal
 use Rattle.js_lexer.specs.declared.token.TokenKind.{TokenKind}
 use Rattle.js_lexer.specs.declared.token.TokenKind.TheVariants as token_kind
 use Rattle.js_lexer.specs.declared.token.Token as code
-use Rattle.js_lexer.specs.Punctuator.{plain_punctuator}
 use Rattle.js_text.specs.Place.{Place}
 use Rattle.js_text.specs.Token as T
 use Rattle.js_text.specs.Lex.{moved}
-
-abbrev pub plain_goal : code_goal.Goal → T.Goal
-plain_goal goal.Div = T.Div
-plain_goal goal.RegExp = T.RegExp
-plain_goal goal.Template = T.Template
 
 abbrev pub kind_of : TokenKind → T.Kind
 kind_of (token_kind.Word text) = T.Word text.now
 kind_of (token_kind.Numeral text) = T.Numeral text.now
 kind_of (token_kind.StringLiteral text) = T.StringLiteral text.now
-kind_of (token_kind.Punctuator punctuator) = T.Punctuator (plain_punctuator punctuator)
+kind_of (token_kind.Punctuator punctuator) = T.Punctuator punctuator
 kind_of token_kind.End = T.End
 
 abbrev pub plain_token : code.Token → T.Token

@@ -1,8 +1,7 @@
 ghost use Rattle.std.specs.Prelude.{◌≡◌, [], ◌++◌, ◌≤◌, ◌-◌, length, take, drop, IfOk, IfErr, OnErr, Some, None, encode_utf8_all};
 ghost use Rattle.std.specs.Str.{chars};
-ghost use Rattle.js_lexer.specs.Token.{plain_token, plain_goal};
+ghost use Rattle.js_lexer.specs.Token.{plain_token};
 ghost use Rattle.js_text.specs.Lex as spec;
-ghost use Rattle.js_text.specs.Place.{place_at};
 ghost use Rattle.js_text.specs.Position.{position_of};
 ghost use Rattle.js_text.specs.Token as plain;
 
@@ -25,20 +24,15 @@ pub struct LexFault {
 /// the place where it stands.
 #[derive(Debug, Drop)]
 pub struct Lexer<'a> {
-    text: &'a str,
     cursor: Cursor<'a>,
 }
 
 impl<'a> Model for Lexer<'a> {
-    ghost use Rattle.std.specs.Prelude.{◌≡◌, ◌++◌};
-    ghost use Rattle.std.specs.Str.{chars};
     ghost use Rattle.js_text.specs.Place.{Place};
 
     ghost Value = { Place };
 
     ghost view = { λ lexer. lexer.cursor };
-
-    ghost invariant = { λ lexer. lexer.cursor.before ++ lexer.cursor.after ≡ chars lexer.text.now };
 }
 
 impl<'a> Lexer<'a> {
@@ -47,24 +41,22 @@ impl<'a> Lexer<'a> {
         ensures before { result.before ≡ [] }
         ensures after { result.after ≡ chars text.now }
     {
-        let text = text.as_str();
         Lexer {
-            text,
-            cursor: Cursor::new(text),
+            cursor: Cursor::new(text.as_str()),
         }
     }
 
     /// The token that stands next for a goal, or the place where none does. The end of the text is a
     /// token, and stands there however often it is asked for. After a fault the lexer stands where it
-    /// stood before, so that another goal may be tried; a fault reads the text up to there again.
+    /// stood before, so that another goal may be tried.
     pub fn next(&mut self, goal: Goal) -> Result<Token<'a>, LexFault>
-        ensures token { IfOk result (λ token. spec.next_token (plain_goal goal) self.old ≡ Some (plain_token token, self.new)) }
-        ensures lex { IfOk result (λ token. spec.Lex (plain_goal goal) (spec.characters_of self.old) (spec.offset_of self.old) (plain_token token)) }
+        ensures token { IfOk result (λ token. spec.next_token goal self.old ≡ Some (plain_token token, self.new)) }
+        ensures lex { IfOk result (λ token. spec.Lex goal (spec.characters_of self.old) (spec.offset_of self.old) (plain_token token)) }
 
-        ensures fault { OnErr result (spec.next_token (plain_goal goal) self.old ≡ None) }
-        ensures no_lex { OnErr result ((token : plain.Token) → ¬ spec.Lex (plain_goal goal) (spec.characters_of self.old) (spec.offset_of self.old) token) }
-        ensures fault_at { IfErr result (λ fault. fault.at ≡ spec.offset_of (spec.token_place (plain_goal goal) self.old)) }
-        ensures fault_place { IfErr result (λ fault. fault.place ≡ position_of (spec.token_place (plain_goal goal) self.old)) }
+        ensures fault { OnErr result (spec.next_token goal self.old ≡ None) }
+        ensures no_lex { OnErr result ((token : plain.Token) → ¬ spec.Lex goal (spec.characters_of self.old) (spec.offset_of self.old) token) }
+        ensures fault_at { IfErr result (λ fault. fault.at ≡ spec.offset_of (spec.token_place goal self.old)) }
+        ensures fault_place { IfErr result (λ fault. fault.place ≡ position_of (spec.token_place goal self.old)) }
         ensures unmoved { OnErr result (self.new ≡ self.old) }
 
         ensures text { spec.characters_of self.new ≡ spec.characters_of self.old }
@@ -74,36 +66,24 @@ impl<'a> Lexer<'a> {
         ensures in_order { IfOk result (λ token. token.start ≤ token.end) }
         ensures stands_after { IfOk result (λ token. spec.offset_of self.new ≡ token.end) }
     {
-        let stood = self.cursor.at();
-        let found = next_of(&mut self.cursor, goal);
-        if found.is_err() {
-            self.cursor = cursor_at(self.text, stood);
+        let mut cursor = self.cursor.again();
+        match next_of(&mut cursor, goal) {
+            Ok(token) => {
+                self.cursor = cursor;
+                Ok(token)
+            }
+            Err(fault) => Err(fault),
         }
-        found
     }
-}
-
-/// A cursor at this many bytes of a text. The text up to there is read.
-fn cursor_at(text: &str, at: usize) -> Cursor<'_>
-    ensures { result ≡ place_at (chars text.now) at }
-{
-    let mut cursor = Cursor::new(text);
-    while let Some(next) = cursor.peek() {
-        if at - cursor.at() < next.len_utf8() {
-            break;
-        }
-        cursor.bump();
-    }
-    cursor
 }
 
 /// The token that stands next for a goal, over which the cursor moves; or the place where none does,
 /// and then the cursor is somewhere after its place.
 fn next_of<'a>(cursor: &mut Cursor<'a>, goal: Goal) -> Result<Token<'a>, LexFault>
-    ensures token { IfOk result (λ token. spec.next_token (plain_goal goal) cursor.old ≡ Some (plain_token token, cursor.new)) }
-    ensures fault { OnErr result (spec.next_token (plain_goal goal) cursor.old ≡ None) }
-    ensures fault_at { IfErr result (λ fault. fault.at ≡ spec.offset_of (spec.token_place (plain_goal goal) cursor.old)) }
-    ensures fault_place { IfErr result (λ fault. fault.place ≡ position_of (spec.token_place (plain_goal goal) cursor.old)) }
+    ensures token { IfOk result (λ token. spec.next_token goal cursor.old ≡ Some (plain_token token, cursor.new)) }
+    ensures fault { OnErr result (spec.next_token goal cursor.old ≡ None) }
+    ensures fault_at { IfErr result (λ fault. fault.at ≡ spec.offset_of (spec.token_place goal cursor.old)) }
+    ensures fault_place { IfErr result (λ fault. fault.place ≡ position_of (spec.token_place goal cursor.old)) }
 {
     let line_terminator_before = skip_gap(cursor, goal);
     let at = cursor.at();

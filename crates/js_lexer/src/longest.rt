@@ -1,7 +1,5 @@
 ghost use Rattle.std.specs.Prelude.{◌≡◌, Some, ◌∷◌, drop};
-ghost use Rattle.std.specs.Option.{option_map};
 ghost use Rattle.std.specs.Str.{chars};
-ghost use Rattle.js_lexer.specs.Punctuator.{plain_punctuator};
 ghost use Rattle.js_text.specs.Punctuator as spec;
 
 use crate::Punctuator;
@@ -35,7 +33,7 @@ fn digit_follows(text: &str) -> bool
 
 /// The longest punctuator that a text begins with.
 pub(crate) fn longest(text: &str) -> Option<Punctuator>
-    ensures { option_map plain_punctuator result ≡ spec.longest_punctuator (chars text.now) }
+    ensures { result ≡ spec.longest_punctuator (chars text.now) }
 {
     let mut cursor = Cursor::new(text);
     let first = cursor.bump()?;
@@ -44,7 +42,7 @@ pub(crate) fn longest(text: &str) -> Option<Punctuator>
 
 /// The same, by the text's first character and what stands after it.
 fn longest_from(first: char, after: &str) -> Option<Punctuator>
-    ensures { option_map plain_punctuator result ≡ spec.longest_punctuator (first ∷ chars after.now) }
+    ensures { result ≡ spec.longest_punctuator (first ∷ chars after.now) }
 {
     match first {
         '{' => Some(Punctuator::OpenBrace),
@@ -78,7 +76,7 @@ fn longest_from(first: char, after: &str) -> Option<Punctuator>
 /// The longest punctuator that begins with `.`, by what stands after that.
 #[tactic(auto, unfolding(js_text::specs::Punctuator::longest_punctuator))]
 fn dot(after: &str) -> Punctuator
-    ensures { Some (plain_punctuator result) ≡ spec.longest_punctuator (0x2E ∷ chars after.now) }
+    ensures { Some result ≡ spec.longest_punctuator (0x2E ∷ chars after.now) }
 {
     if begins(after, &['.', '.']) {
         Punctuator::Ellipsis
@@ -90,7 +88,7 @@ fn dot(after: &str) -> Punctuator
 /// The longest punctuator that begins with `<`, by what stands after that.
 #[tactic(auto, unfolding(js_text::specs::Punctuator::longest_punctuator))]
 fn less_than(after: &str) -> Punctuator
-    ensures { Some (plain_punctuator result) ≡ spec.longest_punctuator (0x3C ∷ chars after.now) }
+    ensures { Some result ≡ spec.longest_punctuator (0x3C ∷ chars after.now) }
 {
     if begins(after, &['<', '=']) {
         Punctuator::ShiftLeftAssign
@@ -106,7 +104,7 @@ fn less_than(after: &str) -> Punctuator
 /// The longest punctuator that begins with `>`, by what stands after that.
 #[tactic(auto, unfolding(js_text::specs::Punctuator::longest_punctuator))]
 fn greater_than(after: &str) -> Punctuator
-    ensures { Some (plain_punctuator result) ≡ spec.longest_punctuator (0x3E ∷ chars after.now) }
+    ensures { Some result ≡ spec.longest_punctuator (0x3E ∷ chars after.now) }
 {
     if begins(after, &['>', '>', '=']) {
         Punctuator::UnsignedShiftRightAssign
@@ -126,7 +124,7 @@ fn greater_than(after: &str) -> Punctuator
 /// The longest punctuator that begins with `=`, by what stands after that.
 #[tactic(auto, unfolding(js_text::specs::Punctuator::longest_punctuator))]
 fn equals(after: &str) -> Punctuator
-    ensures { Some (plain_punctuator result) ≡ spec.longest_punctuator (0x3D ∷ chars after.now) }
+    ensures { Some result ≡ spec.longest_punctuator (0x3D ∷ chars after.now) }
 {
     if begins(after, &['=', '=']) {
         Punctuator::StrictEqual
@@ -142,7 +140,7 @@ fn equals(after: &str) -> Punctuator
 /// The longest punctuator that begins with `!`, by what stands after that.
 #[tactic(auto, unfolding(js_text::specs::Punctuator::longest_punctuator))]
 fn exclamation(after: &str) -> Punctuator
-    ensures { Some (plain_punctuator result) ≡ spec.longest_punctuator (0x21 ∷ chars after.now) }
+    ensures { Some result ≡ spec.longest_punctuator (0x21 ∷ chars after.now) }
 {
     if begins(after, &['=', '=']) {
         Punctuator::StrictNotEqual
@@ -156,7 +154,7 @@ fn exclamation(after: &str) -> Punctuator
 /// The longest punctuator that begins with `+`, by what stands after that.
 #[tactic(auto, unfolding(js_text::specs::Punctuator::longest_punctuator))]
 fn plus(after: &str) -> Punctuator
-    ensures { Some (plain_punctuator result) ≡ spec.longest_punctuator (0x2B ∷ chars after.now) }
+    ensures { Some result ≡ spec.longest_punctuator (0x2B ∷ chars after.now) }
 {
     if begins(after, &['+']) {
         Punctuator::Increment
@@ -170,7 +168,7 @@ fn plus(after: &str) -> Punctuator
 /// The longest punctuator that begins with `-`, by what stands after that.
 #[tactic(auto, unfolding(js_text::specs::Punctuator::longest_punctuator))]
 fn minus(after: &str) -> Punctuator
-    ensures { Some (plain_punctuator result) ≡ spec.longest_punctuator (0x2D ∷ chars after.now) }
+    ensures { Some result ≡ spec.longest_punctuator (0x2D ∷ chars after.now) }
 {
     if begins(after, &['-']) {
         Punctuator::Decrement
@@ -184,7 +182,7 @@ fn minus(after: &str) -> Punctuator
 /// The longest punctuator that begins with `*`, by what stands after that.
 #[tactic(auto, unfolding(js_text::specs::Punctuator::longest_punctuator))]
 fn star(after: &str) -> Punctuator
-    ensures { Some (plain_punctuator result) ≡ spec.longest_punctuator (0x2A ∷ chars after.now) }
+    ensures { Some result ≡ spec.longest_punctuator (0x2A ∷ chars after.now) }
 {
     if begins(after, &['*', '=']) {
         Punctuator::ExponentAssign
@@ -200,7 +198,7 @@ fn star(after: &str) -> Punctuator
 /// The longest punctuator that begins with `/`, by what stands after that.
 #[tactic(auto, unfolding(js_text::specs::Punctuator::longest_punctuator))]
 fn slash(after: &str) -> Punctuator
-    ensures { Some (plain_punctuator result) ≡ spec.longest_punctuator (0x2F ∷ chars after.now) }
+    ensures { Some result ≡ spec.longest_punctuator (0x2F ∷ chars after.now) }
 {
     if begins(after, &['=']) {
         Punctuator::DivideAssign
@@ -212,7 +210,7 @@ fn slash(after: &str) -> Punctuator
 /// The longest punctuator that begins with `%`, by what stands after that.
 #[tactic(auto, unfolding(js_text::specs::Punctuator::longest_punctuator))]
 fn percent(after: &str) -> Punctuator
-    ensures { Some (plain_punctuator result) ≡ spec.longest_punctuator (0x25 ∷ chars after.now) }
+    ensures { Some result ≡ spec.longest_punctuator (0x25 ∷ chars after.now) }
 {
     if begins(after, &['=']) {
         Punctuator::RemainderAssign
@@ -224,7 +222,7 @@ fn percent(after: &str) -> Punctuator
 /// The longest punctuator that begins with `&`, by what stands after that.
 #[tactic(auto, unfolding(js_text::specs::Punctuator::longest_punctuator))]
 fn ampersand(after: &str) -> Punctuator
-    ensures { Some (plain_punctuator result) ≡ spec.longest_punctuator (0x26 ∷ chars after.now) }
+    ensures { Some result ≡ spec.longest_punctuator (0x26 ∷ chars after.now) }
 {
     if begins(after, &['&', '=']) {
         Punctuator::LogicalAndAssign
@@ -240,7 +238,7 @@ fn ampersand(after: &str) -> Punctuator
 /// The longest punctuator that begins with `|`, by what stands after that.
 #[tactic(auto, unfolding(js_text::specs::Punctuator::longest_punctuator))]
 fn bar(after: &str) -> Punctuator
-    ensures { Some (plain_punctuator result) ≡ spec.longest_punctuator (0x7C ∷ chars after.now) }
+    ensures { Some result ≡ spec.longest_punctuator (0x7C ∷ chars after.now) }
 {
     if begins(after, &['|', '=']) {
         Punctuator::LogicalOrAssign
@@ -256,7 +254,7 @@ fn bar(after: &str) -> Punctuator
 /// The longest punctuator that begins with `^`, by what stands after that.
 #[tactic(auto, unfolding(js_text::specs::Punctuator::longest_punctuator))]
 fn caret(after: &str) -> Punctuator
-    ensures { Some (plain_punctuator result) ≡ spec.longest_punctuator (0x5E ∷ chars after.now) }
+    ensures { Some result ≡ spec.longest_punctuator (0x5E ∷ chars after.now) }
 {
     if begins(after, &['=']) {
         Punctuator::XorAssign
@@ -268,7 +266,7 @@ fn caret(after: &str) -> Punctuator
 /// The longest punctuator that begins with `?`, by what stands after that.
 #[tactic(auto, unfolding(js_text::specs::Punctuator::longest_punctuator))]
 fn question(after: &str) -> Punctuator
-    ensures { Some (plain_punctuator result) ≡ spec.longest_punctuator (0x3F ∷ chars after.now) }
+    ensures { Some result ≡ spec.longest_punctuator (0x3F ∷ chars after.now) }
 {
     if begins(after, &['?', '=']) {
         Punctuator::CoalesceAssign

@@ -1,19 +1,18 @@
 ghost use Rattle.std.specs.Prelude.{◌≡◌, ℕ, List, ◌∷◌, ◌++◌, ◌<◌, length, take, take_while, drop, slice_get, Some, encode_utf8_all};
 ghost use Rattle.std.specs.List.{list_any};
 ghost use Rattle.js_lexer.specs.Class.{test_of};
-ghost use Rattle.js_lexer.specs.Token.{kind_of, plain_goal, KindIs, StringEnds};
+ghost use Rattle.js_lexer.specs.Token.{kind_of, KindIs, StringEnds};
 ghost use Rattle.js_text.specs.Character as character;
 ghost use Rattle.js_text.specs.Lex as spec;
 ghost use Rattle.js_text.specs.Position.{is_line_terminator as ends_a_line};
-ghost use Rattle.js_text.specs.Punctuator.{longest_punctuator};
+ghost use Rattle.js_text.specs.Punctuator.{longest_punctuator, is_taken};
 ghost use Rattle.js_text.specs.Token.{Word};
 
 use crate::character::{
     Class, breaks_string, is_digit, is_gap, is_line_terminator, is_quote, starts_identifier,
 };
 use crate::longest::longest;
-use crate::punctuator::is_taken;
-use crate::{Goal, TokenKind};
+use crate::{Goal, Punctuator, TokenKind};
 use js_text::Cursor;
 
 /// Moves over the characters of a class.
@@ -55,8 +54,8 @@ fn skip_space(cursor: &mut Cursor<'_>) -> bool
 
 /// Moves over what stands before the next token, and says whether a line terminator is in it.
 pub(crate) fn skip_gap(cursor: &mut Cursor<'_>, goal: Goal) -> bool
-    ensures place { cursor.new ≡ spec.token_place (plain_goal goal) cursor.old }
-    ensures line { result ≡ list_any ends_a_line (spec.gap_run (plain_goal goal) cursor.old) }
+    ensures place { cursor.new ≡ spec.token_place goal cursor.old }
+    ensures line { result ≡ list_any ends_a_line (spec.gap_run goal cursor.old) }
 {
     match goal {
         Goal::Div | Goal::RegExp => skip_space(cursor),
@@ -160,6 +159,25 @@ fn string<'a>(cursor: &mut Cursor<'a>, quote: char) -> Option<TokenKind<'a>>
     }
 }
 
+/// Whether a punctuator is a token so far.
+fn is_taken(punctuator: Punctuator) -> bool
+    ensures { result ≡ is_taken punctuator }
+{
+    matches!(
+        punctuator,
+        Punctuator::OpenParenthesis
+            | Punctuator::CloseParenthesis
+            | Punctuator::OpenBrace
+            | Punctuator::CloseBrace
+            | Punctuator::Comma
+            | Punctuator::Semicolon
+            | Punctuator::Assign
+            | Punctuator::Plus
+            | Punctuator::Minus
+            | Punctuator::LessThan
+    )
+}
+
 /// The punctuator that follows; none where it is no token.
 fn punctuator<'a>(cursor: &mut Cursor<'a>) -> Option<TokenKind<'a>>
     ensures { KindIs result (spec.punctuator_of (longest_punctuator cursor.old.after)) cursor.old cursor.new }
@@ -175,7 +193,7 @@ fn punctuator<'a>(cursor: &mut Cursor<'a>) -> Option<TokenKind<'a>>
 /// Moves over the token that follows for a goal and says what it is; none where no token stands
 /// there.
 pub(crate) fn kind<'a>(cursor: &mut Cursor<'a>, goal: Goal) -> Option<TokenKind<'a>>
-    ensures { KindIs result (spec.token_of (plain_goal goal) cursor.old.after) cursor.old cursor.new }
+    ensures { KindIs result (spec.token_of goal cursor.old.after) cursor.old cursor.new }
 {
     match goal {
         Goal::Div | Goal::RegExp => common_kind(cursor),

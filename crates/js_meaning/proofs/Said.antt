@@ -5,7 +5,8 @@ use Rattle.js_tree.specs.declared.operators.BinaryOperator.{BinaryOperator}
 use Rattle.js_tree.specs.Plain.{Expr, Exprs, Stmt, Stmts, Declarator, Declarators, IdentifierReference, MaybeStmt, File, MakeFile}
 use Rattle.js_tree.specs.Plain as P
 use Rattle.js_text.specs.Token.{Token}
-use Rattle.js_text.specs.Punctuator as punctuator
+use Rattle.js_text.specs.declared.Punctuator.{Punctuator}
+use Rattle.js_text.specs.declared.Punctuator.TheVariants as punctuator
 use Rattle.js_text.specs.Reads.{Reads}
 use Rattle.js_text.specs.Grammar as G
 use Rattle.js_text.specs.Grammar.{SpellsExpr, SpellsArguments, SpellsDeclarator, SpellsDeclarators, SpellsStmt, SpellsStmts, SpellsBody, Sentence, Sign, is_target}
@@ -15,7 +16,7 @@ use Rattle.js_meaning.specs.Language.{is_said_expr, are_said_exprs, is_said_targ
 both : (a b : Bool) → a ≡ true → b ≡ true → (a && b) ≡ true
 both a b p q = ap (λ x. x && b) p ∙ q
 
-said_sign : {o : BinaryOperator} {p : punctuator.Punctuator} → Sign o p → has_answer o ≡ true
+said_sign : {o : BinaryOperator} {p : Punctuator} → Sign o p → has_answer o ≡ true
 said_sign G.plus = refl
 said_sign G.minus = refl
 said_sign G.less = refl

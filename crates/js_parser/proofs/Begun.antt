@@ -9,8 +9,8 @@ use Rattle.js_text.specs.Grammar.{SpellsStmts, no_statement, SpellsBody, stateme
 use Rattle.js_text.specs.Begins.{BeginsExpr, no_token, whole, begins_parentheses, begins_call, begins_operation, begins_assignment, BeginsStmt, no_stmt_token, whole_stmt, begins_block, begins_var, begins_name, begins_initializer, begins_expression, begins_if, begins_if_test, begins_then, begins_else, begins_while, begins_while_test, begins_while_body, no_stmts_token, begins_last, BeginsFile, no_file_token, begins_file, BeginsMore}
 use Rattle.js_parser.specs.Floor.{up, floor}
 use Rattle.js_parser.specs.Machine.{OfIf, OfWhile, Frame, InBinary, Config, need, run, start}
-use Rattle.js_parser.proofs.Stands.{needs, needs_low, AnExpression, AStatement, has_token, is_fresh, Frames, in_body, in_block, in_expression, in_test, in_initializer, in_if, in_else, in_while, in_binary, in_parentheses, in_assignment, in_call, Reads, wanting, having, starting, ended, directed, opening_test, naming, named, finished}
-use Rattle.js_parser.proofs.Spelled.{stands}
+use Rattle.js_parser.proofs.Stands.{needs, needs_low, AnExpression, AStatement, has_token, is_fresh, Frames, in_body, in_block, in_expression, in_test, in_initializer, in_if, in_else, in_while, in_binary, in_parentheses, in_assignment, in_call, HasRead, wanting, having, starting, ended, directed, opening_test, naming, named, finished}
+use Rattle.js_parser.proofs.Sound.{stands}
 
 of_tokens : {n : ℕ} {x y : List Token} → BeginsFile n x → x ≡ y → BeginsFile n y
 of_tokens {n = n} d e = subst (λ z. BeginsFile n z) e d
@@ -96,7 +96,7 @@ any_token = record {
   comments = record { start = 0; end = 0 };
 }
 
-begun : {c : Config} {u : List Token} → Reads c u → (limit : ℕ) → limit < floor c → BeginsFile (floor c) u
+begun : {c : Config} {u : List Token} → HasRead c u → (limit : ℕ) → limit < floor c → BeginsFile (floor c) u
 begun (wanting has f) limit lt = begun_want has (f any_token)
 begun (having {e = e} {te = te} f le s) limit lt = begun_expr f (level e) (height_expr e) te le (whole s)
 begun (starting fresh f) limit lt = begun_begin fresh (f any_token)

@@ -6,12 +6,15 @@ use Rattle.js_tree.specs.Plain.{Expr, StringLiteral, Binary, Assignment, Exprs, 
 use Rattle.js_tree.specs.Height.{height_expr, height_exprs, height_stmt, height_stmts, height_declarator, height_declarators, height_file}
 use Rattle.js_text.specs.Token.{Token, Kind, Word, Numeral, End}
 use Rattle.js_text.specs.Token as T
-use Rattle.js_text.specs.Punctuator as P
-use Rattle.js_parser.specs.WordClass.{WordClass, NullWord, TrueWord, FalseWord, VarWord, IfWord, WhileWord, NameWord, class_of}
+use Rattle.js_text.specs.declared.punctuator.Punctuator.{Punctuator}
+use Rattle.js_text.specs.declared.punctuator.Punctuator.TheVariants as P
+use Rattle.js_text.specs.declared.word.ReservedWord.{ReservedWord}
+use Rattle.js_text.specs.declared.word.ReservedWord.TheVariants as reserved
+use Rattle.js_text.specs.Word.{reserved_word}
 use Rattle.js_text.specs.Grammar.{through, is_target, Sentence}
 use Rattle.js_parser.specs.Machine.{Test, OfIf, OfWhile, Frame, InBinary, InParentheses, InCall, InAssignment, InExpression, InTest, InInitializer, InIf, InElse, InWhile, InBlock, InBody, Want, Have, Begin, After, WantOpen, WantName, HaveName, Finished, Config, at, word_operand, have_if, close_call, want, begin_word, close_block, close_file, begin, is_else, after, Join, ByOperator, ByCall, ByAssignment, Apart, join, joined, grown, in_prologue, statement_of, declarator_of, plain_declarator_of, close, close_kind, or_close, have, name_class, want_name, have_name_kind, want_open, step, then_run, run, start}
 use Rattle.js_parser.specs.Floor.{lift, up, floor}
-use Rattle.js_parser.proofs.Whole.{complete, run-append}
+use Rattle.js_parser.proofs.Complete.{complete, run-append}
 use Rattle.js_parser.proofs.Steps.{chosen, guarded, two_ways, shifted}
 
 -- the same for a file that has ended: its height
@@ -86,11 +89,11 @@ lands {c = c} {d = d} n h le = let e : c ≡ d = cc in subst (λ x. n ≤ reach 
 
 -- ---- an operand or a statement begins
 
-word_up : (class : WordClass) (word : List ℕ) (l : Loc) (fs : List Frame) (d : Config) → have_if (word_operand class word l) l fs ≡ Some d → up fs 0 ≤ reach d
-word_up NullWord word l fs d h = lands (up fs 0) h (up_mono fs 0 1 (omega arith))
-word_up TrueWord word l fs d h = lands (up fs 0) h (up_mono fs 0 1 (omega arith))
-word_up FalseWord word l fs d h = lands (up fs 0) h (up_mono fs 0 1 (omega arith))
-word_up NameWord word l fs d h = lands (up fs 0) h (up_mono fs 0 1 (omega arith))
+word_up : (class : Option ReservedWord) (word : List ℕ) (l : Loc) (fs : List Frame) (d : Config) → have_if (word_operand class word l) l fs ≡ Some d → up fs 0 ≤ reach d
+word_up (Some reserved.Null) word l fs d h = lands (up fs 0) h (up_mono fs 0 1 (omega arith))
+word_up (Some reserved.True) word l fs d h = lands (up fs 0) h (up_mono fs 0 1 (omega arith))
+word_up (Some reserved.False) word l fs d h = lands (up fs 0) h (up_mono fs 0 1 (omega arith))
+word_up None word l fs d h = lands (up fs 0) h (up_mono fs 0 1 (omega arith))
 word_up class word l fs d h = absurd cc
 
 call_up : (fs : List Frame) (l : Loc) (d : Config) → close_call fs l ≡ Some d → up fs 0 ≤ reach d
@@ -98,7 +101,7 @@ call_up (InCall f lf xs ∷ fs) l d h = lands (up fs (lift (InCall f lf xs) 0)) 
 call_up fs l d h = absurd cc
 
 want_up : (k : Kind) (l : Loc) (fs : List Frame) (d : Config) → want k l fs ≡ Some d → up fs 0 ≤ reach d
-want_up (Word word) l fs d h = word_up (class_of word) word l fs d h
+want_up (Word word) l fs d h = word_up (reserved_word word) word l fs d h
 want_up (Numeral digits) l fs d h = lands (up fs 0) h (up_mono fs 0 1 (omega arith))
 want_up (T.StringLiteral bytes) l fs d h = lands (up fs 0) h (up_mono fs 0 1 (omega arith))
 want_up (T.Punctuator P.OpenParenthesis) l fs d h = lands (up fs 0) h (up_mono fs 0 (lift (InParentheses l) 0) (omega arith))
@@ -106,14 +109,14 @@ want_up (T.Punctuator P.CloseParenthesis) l fs d h = call_up fs l d h
 want_up (T.Punctuator p) l fs d h = absurd cc
 want_up End l fs d h = absurd cc
 
-begin_word_up : (class : WordClass) (word : List ℕ) (l : Loc) (fs : List Frame) (d : Config) → begin_word class word l fs ≡ Some d → up fs 0 ≤ reach d
-begin_word_up VarWord word l fs d h = lands (up fs 0) h (up_mono fs 0 (height_declarators no_declarator + 1) (omega arith))
-begin_word_up IfWord word l fs d h = lands (up fs 0) h (up_mono fs 0 1 (omega arith))
-begin_word_up WhileWord word l fs d h = lands (up fs 0) h (up_mono fs 0 1 (omega arith))
-begin_word_up NullWord word l fs d h = le_trans (up_mono fs 0 (lift InExpression 0) (omega arith)) (word_up NullWord word l (InExpression ∷ fs) d h)
-begin_word_up TrueWord word l fs d h = le_trans (up_mono fs 0 (lift InExpression 0) (omega arith)) (word_up TrueWord word l (InExpression ∷ fs) d h)
-begin_word_up FalseWord word l fs d h = le_trans (up_mono fs 0 (lift InExpression 0) (omega arith)) (word_up FalseWord word l (InExpression ∷ fs) d h)
-begin_word_up NameWord word l fs d h = le_trans (up_mono fs 0 (lift InExpression 0) (omega arith)) (word_up NameWord word l (InExpression ∷ fs) d h)
+begin_word_up : (class : Option ReservedWord) (word : List ℕ) (l : Loc) (fs : List Frame) (d : Config) → begin_word class word l fs ≡ Some d → up fs 0 ≤ reach d
+begin_word_up (Some reserved.Var) word l fs d h = lands (up fs 0) h (up_mono fs 0 (height_declarators no_declarator + 1) (omega arith))
+begin_word_up (Some reserved.If) word l fs d h = lands (up fs 0) h (up_mono fs 0 1 (omega arith))
+begin_word_up (Some reserved.While) word l fs d h = lands (up fs 0) h (up_mono fs 0 1 (omega arith))
+begin_word_up (Some reserved.Null) word l fs d h = le_trans (up_mono fs 0 (lift InExpression 0) (omega arith)) (word_up (Some reserved.Null) word l (InExpression ∷ fs) d h)
+begin_word_up (Some reserved.True) word l fs d h = le_trans (up_mono fs 0 (lift InExpression 0) (omega arith)) (word_up (Some reserved.True) word l (InExpression ∷ fs) d h)
+begin_word_up (Some reserved.False) word l fs d h = le_trans (up_mono fs 0 (lift InExpression 0) (omega arith)) (word_up (Some reserved.False) word l (InExpression ∷ fs) d h)
+begin_word_up None word l fs d h = le_trans (up_mono fs 0 (lift InExpression 0) (omega arith)) (word_up None word l (InExpression ∷ fs) d h)
 begin_word_up class word l fs d h = absurd cc
 
 block_up : (fs : List Frame) (l : Loc) (d : Config) → close_block fs l ≡ Some d → up fs 0 ≤ reach d
@@ -125,7 +128,7 @@ file_up (InBody ss ∷ fs) d h = lands (up fs (lift (InBody ss) 0)) h (up_mono f
 file_up fs d h = absurd cc
 
 begin_up : (k : Kind) (l : Loc) (fs : List Frame) (d : Config) → begin k l fs ≡ Some d → up fs 0 ≤ reach d
-begin_up (Word word) l fs d h = begin_word_up (class_of word) word l fs d h
+begin_up (Word word) l fs d h = begin_word_up (reserved_word word) word l fs d h
 begin_up (Numeral digits) l fs d h = lands (up fs 0) h (up_mono fs 0 (lift InExpression 1) (omega arith))
 begin_up (T.StringLiteral bytes) l fs d h = lands (up fs 0) h (up_mono fs 0 (lift InExpression 1) (omega arith))
 begin_up (T.Punctuator P.OpenBrace) l fs d h = lands (up fs 0) h (up_mono fs 0 (lift (InBlock l no_stmt) 0) (omega arith))
@@ -166,7 +169,7 @@ statement_height true (StringLiteral m s) l = omega arith
 statement_height true e l = refl
 statement_height false e l = refl
 
-close_up : (f : Frame) (fs : List Frame) (e : Expr) (l : Loc) (p : P.Punctuator) (c : Loc) (d : Config) → close f fs e l p c ≡ Some d → up fs (lift f (height_expr e)) ≤ reach d
+close_up : (f : Frame) (fs : List Frame) (e : Expr) (l : Loc) (p : Punctuator) (c : Loc) (d : Config) → close f fs e l p c ≡ Some d → up fs (lift f (height_expr e)) ≤ reach d
 close_up (InParentheses opening) fs e l P.CloseParenthesis c d h = lands (up fs (height_expr e + 1)) h (le_refl _)
 close_up (InCall f lf xs) fs e l P.CloseParenthesis c d h =
     let q = max_push_exprs xs e in
@@ -210,12 +213,12 @@ have_up (f ∷ fs) e l k lt d h =
 
 -- ---- declarations, tests, and a step
 
-name_up : (class : WordClass) (w : Loc) (ds : Declarators) (word : List ℕ) (l : Loc) (fs : List Frame) (d : Config) → name_class class w ds word l fs ≡ Some d → up fs (height_declarators ds + 1) ≤ reach d
-name_up NameWord w ds word l fs d h = lands (up fs (height_declarators ds + 1)) h (up_mono fs (height_declarators ds + 1) (max (height_declarators ds) 2 + 1) (omega arith))
+name_up : (class : Option ReservedWord) (w : Loc) (ds : Declarators) (word : List ℕ) (l : Loc) (fs : List Frame) (d : Config) → name_class class w ds word l fs ≡ Some d → up fs (height_declarators ds + 1) ≤ reach d
+name_up None w ds word l fs d h = lands (up fs (height_declarators ds + 1)) h (up_mono fs (height_declarators ds + 1) (max (height_declarators ds) 2 + 1) (omega arith))
 name_up class w ds word l fs d h = absurd cc
 
 want_name_up : (w : Loc) (ds : Declarators) (k : Kind) (l : Loc) (fs : List Frame) (d : Config) → want_name w ds k l fs ≡ Some d → up fs (height_declarators ds + 1) ≤ reach d
-want_name_up w ds (Word word) l fs d h = name_up (class_of word) w ds word l fs d h
+want_name_up w ds (Word word) l fs d h = name_up (reserved_word word) w ds word l fs d h
 want_name_up w ds k l fs d h = absurd cc
 
 have_name_up : (w : Loc) (ds : Declarators) (name : List ℕ) (ln : Loc) (k : Kind) (l : Loc) (fs : List Frame) (d : Config) → have_name_kind w ds name ln k l fs ≡ Some d → up fs (max (height_declarators ds) 2 + 1) ≤ reach d

@@ -5,10 +5,13 @@ use Rattle.js_tree.specs.Plain.{Expr, Stmt, Stmts, Declarators, If, While, none_
 use Rattle.js_tree.specs.Height.{height_stmts}
 use Rattle.js_text.specs.Token.{Token, Kind, Word, Numeral, End}
 use Rattle.js_text.specs.Token as T
-use Rattle.js_text.specs.Punctuator as P
+use Rattle.js_text.specs.declared.punctuator.Punctuator.{Punctuator}
+use Rattle.js_text.specs.declared.punctuator.Punctuator.TheVariants as P
 use Rattle.js_text.specs.Level.{level}
 use Rattle.js_text.specs.Grammar.{through, is_target}
-use Rattle.js_parser.specs.WordClass.{WordClass, VarWord, IfWord, WhileWord, NameWord, class_of}
+use Rattle.js_text.specs.declared.word.ReservedWord.{ReservedWord}
+use Rattle.js_text.specs.declared.word.ReservedWord.TheVariants as reserved
+use Rattle.js_text.specs.Word.{reserved_word}
 use Rattle.js_parser.specs.Floor.{up, floor}
 use Rattle.js_parser.specs.Machine.{Frame, InParentheses, InCall, InAssignment, InExpression, InTest, InInitializer, InIf, InElse, InWhile, InBlock, InBody, Mode, Want, Have, Begin, After, WantOpen, WantName, HaveName, Finished, Config, at, word_operand, have_if, close_call, want_punctuator, want, begin_word, close_block, begin_punctuator, begin, is_else, after, Join, ByOperator, ByCall, ByAssignment, Apart, join, strength, wants, need, joined, shift, grown, close, close_kind, or_close, have, name_class, want_name, have_name, have_name_kind, open_test, want_open, step_kind, step}
 use Rattle.js_parser.specs.Turn.{standing, has_ended}
@@ -35,29 +38,29 @@ close_call_going : (fs : List Frame) (c : Loc) → Going (close_call fs c)
 close_call_going (InCall f lf xs ∷ fs) c = tt
 close_call_going fs c = tt
 
-want_punctuator_going : (p : P.Punctuator) (l : Loc) (fs : List Frame) → Going (want_punctuator p l fs)
+want_punctuator_going : (p : Punctuator) (l : Loc) (fs : List Frame) → Going (want_punctuator p l fs)
 want_punctuator_going P.OpenParenthesis l fs = tt
 want_punctuator_going P.CloseParenthesis l fs = close_call_going fs l
 want_punctuator_going p l fs = tt
 
 want_going : (k : Kind) (l : Loc) (fs : List Frame) → Going (want k l fs)
-want_going (Word word) l fs = have_if_going (word_operand (class_of word) word l) l fs
+want_going (Word word) l fs = have_if_going (word_operand (reserved_word word) word l) l fs
 want_going (Numeral digits) l fs = tt
 want_going (T.StringLiteral bytes) l fs = tt
 want_going (T.Punctuator p) l fs = want_punctuator_going p l fs
 want_going End l fs = tt
 
-begin_word_going : (class : WordClass) (word : List ℕ) (l : Loc) (fs : List Frame) → Going (begin_word class word l fs)
-begin_word_going VarWord word l fs = tt
-begin_word_going IfWord word l fs = tt
-begin_word_going WhileWord word l fs = tt
+begin_word_going : (class : Option ReservedWord) (word : List ℕ) (l : Loc) (fs : List Frame) → Going (begin_word class word l fs)
+begin_word_going (Some reserved.Var) word l fs = tt
+begin_word_going (Some reserved.If) word l fs = tt
+begin_word_going (Some reserved.While) word l fs = tt
 begin_word_going class word l fs = have_if_going (word_operand class word l) l (InExpression ∷ fs)
 
 close_block_going : (fs : List Frame) (c : Loc) → Going (close_block fs c)
 close_block_going (InBlock opening ss ∷ fs) c = tt
 close_block_going fs c = tt
 
-begin_punctuator_going : (p : P.Punctuator) (l : Loc) (fs : List Frame) → Going (begin_punctuator p l fs)
+begin_punctuator_going : (p : Punctuator) (l : Loc) (fs : List Frame) → Going (begin_punctuator p l fs)
 begin_punctuator_going P.OpenBrace l fs = tt
 begin_punctuator_going P.CloseBrace l fs = close_block_going fs l
 begin_punctuator_going P.Semicolon l fs = tt
@@ -69,7 +72,7 @@ abbrev NoEnd : Kind → Type 0
 NoEnd k = k ≡ End → ⊥
 
 begin_going : (k : Kind) (l : Loc) (fs : List Frame) → NoEnd k → Going (begin k l fs)
-begin_going (Word word) l fs other = begin_word_going (class_of word) word l fs
+begin_going (Word word) l fs other = begin_word_going (reserved_word word) word l fs
 begin_going (Numeral digits) l fs other = tt
 begin_going (T.StringLiteral bytes) l fs other = tt
 begin_going (T.Punctuator p) l fs other = begin_punctuator_going p l fs
@@ -95,7 +98,7 @@ joined_going Apart e l fs lt = tt
 shift_going : (j : Join) (e : Expr) (l : Loc) (fs : List Frame) (lt : Loc) → Going (shift j e l fs lt)
 shift_going j e l fs lt = if_going (nat_le (wants j) (level e)) (joined j e l fs lt) None (joined_going j e l fs lt) tt
 
-close_going : (f : Frame) (fs : List Frame) (e : Expr) (l : Loc) (p : P.Punctuator) (c : Loc) → Going (close f fs e l p c)
+close_going : (f : Frame) (fs : List Frame) (e : Expr) (l : Loc) (p : Punctuator) (c : Loc) → Going (close f fs e l p c)
 close_going (InParentheses opening) fs e l P.CloseParenthesis c = tt
 close_going (InCall f lf xs) fs e l P.CloseParenthesis c = tt
 close_going (InCall f lf xs) fs e l P.Comma c = tt
@@ -120,15 +123,15 @@ have_going (f ∷ fs) e l k lt =
     (shift_going (join k) e l (f ∷ fs) lt)
     (or_close_going (grown f e l) (λ g lg. have fs g lg k lt) (close_kind f fs e l k lt) (λ g lg. have_going fs g lg k lt) (close_kind_going f fs e l k lt))
 
-name_class_going : (class : WordClass) (w : Loc) (ds : Declarators) (word : List ℕ) (l : Loc) (fs : List Frame) → Going (name_class class w ds word l fs)
-name_class_going NameWord w ds word l fs = tt
+name_class_going : (class : Option ReservedWord) (w : Loc) (ds : Declarators) (word : List ℕ) (l : Loc) (fs : List Frame) → Going (name_class class w ds word l fs)
+name_class_going None w ds word l fs = tt
 name_class_going class w ds word l fs = tt
 
 want_name_going : (w : Loc) (ds : Declarators) (k : Kind) (l : Loc) (fs : List Frame) → Going (want_name w ds k l fs)
-want_name_going w ds (Word word) l fs = name_class_going (class_of word) w ds word l fs
+want_name_going w ds (Word word) l fs = name_class_going (reserved_word word) w ds word l fs
 want_name_going w ds k l fs = tt
 
-have_name_going : (w : Loc) (ds : Declarators) (name : List ℕ) (ln : Loc) (p : P.Punctuator) (l : Loc) (fs : List Frame) → Going (have_name w ds name ln p l fs)
+have_name_going : (w : Loc) (ds : Declarators) (name : List ℕ) (ln : Loc) (p : Punctuator) (l : Loc) (fs : List Frame) → Going (have_name w ds name ln p l fs)
 have_name_going w ds name ln P.Assign l fs = tt
 have_name_going w ds name ln P.Comma l fs = tt
 have_name_going w ds name ln P.Semicolon l fs = tt
@@ -138,7 +141,7 @@ have_name_kind_going : (w : Loc) (ds : Declarators) (name : List ℕ) (ln : Loc)
 have_name_kind_going w ds name ln (T.Punctuator p) l fs = have_name_going w ds name ln p l fs
 have_name_kind_going w ds name ln k l fs = tt
 
-open_test_going : (t : _) (w : Loc) (p : P.Punctuator) (fs : List Frame) → Going (open_test t w p fs)
+open_test_going : (t : _) (w : Loc) (p : Punctuator) (fs : List Frame) → Going (open_test t w p fs)
 open_test_going t w P.OpenParenthesis fs = tt
 open_test_going t w p fs = tt
 

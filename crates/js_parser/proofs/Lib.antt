@@ -1,13 +1,13 @@
 mod Words
 mod Levels
 mod Lists
+mod CompleteExpr
 mod Complete
-mod Whole
 mod Steps
 mod Floor
 mod Stands
+mod SoundSteps
 mod Sound
-mod Spelled
 mod Begun
 mod TokenPaths
 mod Ends
@@ -19,3 +19,4 @@ mod ForUnits
 mod Directives
 mod IfNodes
 mod OnStack
+mod Heads

@@ -5,12 +5,12 @@ use Rattle.js_tree.specs.Plain.{File, MakeFile}
 use Rattle.js_tree.specs.Height.{height_stmts}
 use Rattle.js_tree.specs.Tree.{plain_stmts}
 use Rattle.js_text.specs.Place.{Place}
-use Rattle.js_text.specs.Token.{Div}
+use Rattle.js_text.specs.declared.goal.Goal.TheVariants.{Div}
 use Rattle.js_text.specs.Lex.{token_place, offset_of}
 use Rattle.js_text.specs.Reads.{Reads, Reaches, Lexes, no_token, start_of}
 use Rattle.js_lexer.proofs.Lex.{next_token-advances}
 use Rattle.js_parser.specs.declared.frame.Mode as code
-use Rattle.js_parser.specs.declared.part.Pieces.{Pieces}
+use Rattle.js_parser.specs.declared.read.ReadStatements.{ReadStatements}
 use Rattle.js_parser.specs.declared.reader.Progress.{Progress}
 use Rattle.js_parser.specs.declared.reader.Progress.TheVariants as progress
 use Rattle.js_parser.specs.declared.refused.Refusal.{Refusal}
@@ -66,21 +66,21 @@ shrinks text here there fs gs m next n limit is h =
     ]
 
 -- the file has ended: the tree is the text's, the only one, and within the limit
-whole : (text : List ℕ) (here there : Place) (fs gs : List Frame) (m : Mode) (next : Progress) (body : Pieces) (limit : ℕ) → next ≡ progress.Ended body →
+whole : (text : List ℕ) (here there : Place) (fs gs : List Frame) (m : Mode) (next : Progress) (body : ReadStatements) (limit : ℕ) → next ≡ progress.Ended body →
     Stands text here m fs → TakesOne here there fs m gs next limit → Taken (start_of text) there (at (Finished (plain_stmts body.items)) gs)
 whole text here there fs gs m next body limit is s h =
     let k = subst (λ x. TakesOne here there fs m gs x limit) is h in
     taken_more (at m fs) (at (Finished (plain_stmts body.items)) gs) k.0 s.1 k.1 k.2
 
-pub ended_tree : (text : List ℕ) (here there : Place) (fs gs : List Frame) (m : Mode) (next : Progress) (body : Pieces) (limit : ℕ) → next ≡ progress.Ended body →
+pub ended_tree : (text : List ℕ) (here there : Place) (fs gs : List Frame) (m : Mode) (next : Progress) (body : ReadStatements) (limit : ℕ) → next ≡ progress.Ended body →
     Stands text here m fs → TakesOne here there fs m gs next limit → Reads text (MakeFile (plain_stmts body.items) [])
 ended_tree text here there fs gs m next body limit is s h = reads_whole (plain_stmts body.items) gs (whole text here there fs gs m next body limit is s h)
 
-pub ended_only : (text : List ℕ) (here there : Place) (fs gs : List Frame) (m : Mode) (next : Progress) (body : Pieces) (limit : ℕ) → next ≡ progress.Ended body →
+pub ended_only : (text : List ℕ) (here there : Place) (fs gs : List Frame) (m : Mode) (next : Progress) (body : ReadStatements) (limit : ℕ) → next ≡ progress.Ended body →
     Stands text here m fs → TakesOne here there fs m gs next limit → (tree : File) → Reads text tree → tree ≡ MakeFile (plain_stmts body.items) []
 ended_only text here there fs gs m next body limit is s h = reads_only (plain_stmts body.items) gs (whole text here there fs gs m next body limit is s h)
 
-pub ended_low : (text : List ℕ) (here there : Place) (fs gs : List Frame) (m : Mode) (next : Progress) (body : Pieces) (limit : ℕ) → next ≡ progress.Ended body →
+pub ended_low : (text : List ℕ) (here there : Place) (fs gs : List Frame) (m : Mode) (next : Progress) (body : ReadStatements) (limit : ℕ) → next ≡ progress.Ended body →
     Stands text here m fs → TakesOne here there fs m gs next limit → height_stmts (plain_stmts body.items) ≤ limit
 ended_low text here there fs gs m next body limit is s h =
     let k = subst (λ x. TakesOne here there fs m gs x limit) is h in

@@ -1,218 +1,193 @@
--- Whatever is read is a sentence.
-use Rattle.std.proofs.Common.{◌≡◌, ℕ, ◌<◌, ◌≤◌, Bool, true, false, not, ◌&&◌, List, [], ◌∷◌, ◌++◌, Option, Some, None, codes, inl, inr, refl, sym, ap, subst, ◌∙◌, arith, append_assoc, append-nil}
-use Rattle.std.specs.Prelude.{nat_le, ◌⊎◌, if◌then◌else◌}
-use Rattle.std.proofs.lemmas.Bool.{leb-true, leb-false, true≢false}
+-- From one token to the next, what stands is spelled: whatever is read is a sentence.
+use Rattle.std.proofs.Common.{◌≡◌, ℕ, ◌≤◌, Bool, true, false, not, ◌&&◌, List, [], ◌∷◌, ◌++◌, Option, Some, None, codes, inl, inr, refl, sym, ap, subst, ◌∙◌, arith, append_assoc, append-nil}
 use Rattle.js_tree.specs.declared.place.Loc.{Loc}
-use Rattle.js_tree.specs.declared.operators.BinaryOperator.{BinaryOperator}
-use Rattle.js_tree.specs.declared.operators.BinaryOperator.TheVariants as binary
-use Rattle.js_tree.specs.Plain.{Expr, Exprs, IdentifierReference, NullLiteral, BooleanLiteral, Parenthesized, Call, push_exprs, Stmt, Stmts, If, While, none_stmt, some_stmt, Declarators, push_declarators}
-use Rattle.js_text.specs.Token.{Token, Kind, Word, Numeral, End}
+use Rattle.js_tree.specs.declared.operators.AssignmentOperator.TheVariants as assign
+use Rattle.js_tree.specs.Plain.{Expr, StringLiteral, Binary, Assignment, Stmts, Expression, Declarators, MakeFile}
+use Rattle.js_text.specs.Token.{Token, Kind, Word}
 use Rattle.js_text.specs.Token as T
-use Rattle.js_text.specs.Punctuator as P
-use Rattle.js_parser.specs.WordClass.{WordClass, class_of, NullWord, TrueWord, FalseWord, VarWord, IfWord, ElseWord, WhileWord, OtherKeyword, NameWord}
+use Rattle.js_text.specs.declared.punctuator.Punctuator.TheVariants as P
+use Rattle.js_text.specs.declared.word.ReservedWord.{ReservedWord}
+use Rattle.js_text.specs.Word.{reserved_word}
 use Rattle.js_text.specs.Level.{level}
 use Rattle.js_text.specs.Grammar
-use Rattle.js_text.specs.Grammar.{through, Is, IsWord, spelled, Sign, plus, minus, less, is_target, SpellsExpr, no_argument, last_argument, SpellsStmt, is_string_statement, Sentence}
-use Rattle.js_text.specs.Begins.{no_item, no_declared}
-use Rattle.js_parser.specs.Machine.{Test, OfIf, OfWhile, Frame, InParentheses, InCall, InAssignment, InExpression, InTest, InInitializer, InElse, Want, Have, Begin, After, WantName, Config, at, Join, ByOperator, ByCall, ByAssignment, Apart, join, strength, wants, need, word_operand, have_if, want, close_call, begin, begin_word, close_block, close_file, is_else, after, in_prologue, statement_of, declarator_of, declared, test_frame, joined, shift, grown, close, close_kind, or_close, have}
+use Rattle.js_text.specs.Grammar.{through, Is, IsWord, spelled, SpellsExpr, last_argument, SpellsDeclarator, SpellsDeclarators, one, SpellsStmt, is_string_statement, Sentence}
+use Rattle.js_text.specs.Begins.{SpellsDeclared, one_item, one_declared}
+use Rattle.js_parser.specs.Machine.{Test, OfIf, OfWhile, Frame, InBinary, InParentheses, InCall, InAssignment, InExpression, InTest, InInitializer, After, Finished, Config, at, join, strength, need, in_prologue, statement_of, declarator_of, plain_declarator_of, shift, have, name_class, want_name, have_name_kind, want_open, step, then_run, run, start}
 use Rattle.js_parser.proofs.Words.{fits_as}
-use Rattle.js_parser.proofs.Lists.{exprs_end}
-use Rattle.js_parser.proofs.Whole.{fine, else_word, an_else}
-use Rattle.js_parser.proofs.Stands.{needs, needs_low, AnExpression, AStatement, Frames, in_body, in_block, in_expression, in_if, in_else, in_while, in_binary, in_parentheses, in_assignment, in_call, Reads, wanting, having, starting, ended, opening_test, naming, finished, items_then, stmts_then, body_then}
+use Rattle.js_parser.proofs.Lists.{exprs_last, declarators_last}
+use Rattle.js_parser.proofs.Stands.{needs, needs_low, HeadWord, AnExpression, AStatement, Frames, in_body, in_expression, in_test, in_initializer, in_if, in_while, in_binary, in_parentheses, in_assignment, in_call, HasRead, wanting, having, starting, ended, directed, opening_test, naming, named, finished, items_then, declared_then, directives_then}
+use Rattle.js_parser.proofs.SoundSteps.{moves, same_place, never, sound_want, sound_begin, sound_after, sound_shift, two_ways, closing_token, close_parentheses, close_arguments, close_statement, close_test, close_initializer}
 
--- ---- tests, taken apart
+-- a token that the frame's part takes, from any frame
+takes_on : {f : Frame} {fs : List Frame} {u : List Token} {b : Token} → Frames AnExpression (f ∷ fs) u b → (e : Expr) (l : Loc) (te : List Token) (t : Token) (d : Config) → SpellsExpr e l (b ∷ te) →
+    (need f ≤ strength (join t.kind)) × (shift (join t.kind) e l (f ∷ fs) t.loc ≡ Some d) → HasRead d ((u ++ b ∷ te) ++ t ∷ [])
+takes_on {f = f} {fs = fs} fr e l te t d s p = sound_shift (f ∷ fs) e l t d p.0 fr s p.1
 
-pub chosen : {A : Type 0} (b : Bool) (x y z : A) → (if b then x else y) ≡ z → ((b ≡ true) × (x ≡ z)) ⊎ ((b ≡ false) × (y ≡ z))
-chosen true x y z h = inl (refl, h)
-chosen false x y z h = inr (refl, h)
+-- the statement that an expression becomes, with its `;`
+string_stands : {fs : List Frame} {u : List Token} (bytes : List ℕ) (t semicolon : Token) → (m : Bool) → in_prologue fs ≡ m → Frames AStatement fs u t → t.kind ≡ T.StringLiteral bytes → Is semicolon P.Semicolon →
+    HasRead (at (After (statement_of m (StringLiteral (Some t.loc) (spelled bytes)) (through t.loc semicolon.loc)) (through t.loc semicolon.loc)) fs) (u ++ t ∷ semicolon ∷ [])
+string_stands bytes t semicolon false not_there f is is_semicolon = ended f (ap (λ b. not (b && true)) not_there) (λ n. Grammar.expression semicolon is_semicolon (Grammar.string is))
+string_stands bytes t semicolon true there (in_body ds) is is_semicolon = directed t semicolon there is is_semicolon ds
+string_stands bytes t semicolon true there f is is_semicolon = absurd cc
 
-pub guarded : {A : Type 0} (b : Bool) (x y : A) → (if b then Some x else None) ≡ Some y → (b ≡ true) × (x ≡ y)
-guarded true x y h = (refl, cc)
-guarded false x y h = absurd cc
+other_stands : (m : Bool) (e : Expr) (l : Loc) → is_string_statement (Expression (Some l) e) ≡ false → statement_of m e l ≡ Expression (Some l) e
+other_stands false e l h = refl
+other_stands true (StringLiteral o s) l h = absurd cc
+other_stands true e l h = refl
 
-pub moves : {d : Config} {x y : List Token} → Reads d x → x ≡ y → Reads d y
-moves {d = d} r e = subst (λ z. Reads d z) e r
+plain_stands : {fs : List Frame} {u te : List Token} {b : Token} {e : Expr} {l : Loc} (semicolon : Token) → Frames AStatement fs u b → SpellsExpr e l (b ∷ te) → Is semicolon P.Semicolon → is_string_statement (Expression (Some (through l semicolon.loc)) e) ≡ false →
+    HasRead (at (After (statement_of (in_prologue fs) e (through l semicolon.loc)) (through l semicolon.loc)) fs) (u ++ b ∷ (te ++ semicolon ∷ []))
+plain_stands {fs = fs} {u = u} {te = te} {b = b} {e = e} {l = l} semicolon f s is none =
+    subst (λ x. HasRead (at (After x (through l semicolon.loc)) fs) (u ++ b ∷ (te ++ semicolon ∷ []))) (sym (other_stands (in_prologue fs) e (through l semicolon.loc) none))
+    (ended f (ap (λ x. not (in_prologue fs && x)) none ∙ never (in_prologue fs)) (λ n. Grammar.expression semicolon is s))
 
-pub same_place : {c d : Config} {u : List Token} → Some c ≡ Some d → Reads c u → Reads d u
-same_place {c = c} {d = d} {u = u} h r = let e : c ≡ d = cc in subst (λ x. Reads x u) e r
-
--- a word that is an operand
-record Operand (e : Expr) (t : Token) : Type 0 where
-  spells : SpellsExpr e t.loc (t ∷ [])
-  high : 15 ≤ level e
-
-word_spells : (t : Token) (word : List ℕ) (c : WordClass) (e : Expr) → IsWord t word → class_of word ≡ c → word_operand c word t.loc ≡ Some e → Operand e t
-word_spells t word NullWord e is of h = let q : NullLiteral (Some t.loc) ≡ e = cc in subst (λ x. Operand x t) q (record { spells = Grammar.null_literal (is ∙ ap Word (fits_as word NullWord of)); high = omega arith })
-word_spells t word TrueWord e is of h = let q : BooleanLiteral (Some t.loc) true ≡ e = cc in subst (λ x. Operand x t) q (record { spells = Grammar.true_literal (is ∙ ap Word (fits_as word TrueWord of)); high = omega arith })
-word_spells t word FalseWord e is of h = let q : BooleanLiteral (Some t.loc) false ≡ e = cc in subst (λ x. Operand x t) q (record { spells = Grammar.false_literal (is ∙ ap Word (fits_as word FalseWord of)); high = omega arith })
-word_spells t word NameWord e is of h = let q : IdentifierReference (Some t.loc) word ≡ e = cc in subst (λ x. Operand x t) q (record { spells = Grammar.reference is (fits_as word NameWord of); high = omega arith })
-word_spells t word VarWord e is of h = absurd cc
-word_spells t word IfWord e is of h = absurd cc
-word_spells t word ElseWord e is of h = absurd cc
-word_spells t word WhileWord e is of h = absurd cc
-word_spells t word OtherKeyword e is of h = absurd cc
-
-sound_word : {fs : List Frame} {u : List Token} (t : Token) (word : List ℕ) (c : WordClass) (o : Option Expr) (d : Config) → Frames AnExpression fs u t → IsWord t word → class_of word ≡ c → word_operand c word t.loc ≡ o → have_if o t.loc fs ≡ Some d →
-    Reads d (u ++ t ∷ [])
-sound_word t word c None d f is of e h = absurd cc
-sound_word {fs = fs} t word c (Some x) d f is of e h = let s = word_spells t word c x is of e in let n = needs_low fs in let k = s.high in same_place h (having f (omega arith) s.spells)
-
--- ---- an operand begins
-
-sound_close_call : {fs : List Frame} {u : List Token} (t : Token) (d : Config) → Is t P.CloseParenthesis → Frames AnExpression fs u t → close_call fs t.loc ≡ Some d → Reads d (u ++ t ∷ [])
-sound_close_call t d is (in_call {g = g} {xs = xs} {fs = fs} {u = u} {tg = tg} {ts = ts} {b = bg} opening is_opening lg dg i f) h =
-    let all = subst (λ x. Grammar.SpellsArguments x (ts ++ [])) (exprs_end xs) (items_then i no_argument) in
-    let n = needs_low fs in
-    same_place h (moves (having f (omega arith) (Grammar.call opening t is_opening is lg dg all)) (simp (append_assoc, append-nil)))
-sound_close_call t d is f h = absurd cc
-
-pub sound_want : {fs : List Frame} {u : List Token} (t : Token) (k : Kind) (d : Config) → t.kind ≡ k → Frames AnExpression fs u t → want k t.loc fs ≡ Some d → Reads d (u ++ t ∷ [])
-sound_want t (Word word) d is f h = sound_word t word (class_of word) (word_operand (class_of word) word t.loc) d f is refl refl h
-sound_want {fs = fs} t (Numeral digits) d is f h = let n = needs_low fs in same_place h (having f (omega arith) (Grammar.number is))
-sound_want {fs = fs} t (T.StringLiteral bytes) d is f h = let n = needs_low fs in same_place h (having f (omega arith) (Grammar.string is))
-sound_want t (T.Punctuator P.OpenParenthesis) d is f h = same_place h (wanting refl (λ n. in_parentheses t is f))
-sound_want t (T.Punctuator P.CloseParenthesis) d is f h = sound_close_call t d is f h
-sound_want t k d is f h = absurd cc
-
--- ---- a statement begins, or a list of statements ends
-
-sound_close_block : {fs : List Frame} {u : List Token} (t : Token) (d : Config) → Is t P.CloseBrace → Frames AStatement fs u t → close_block fs t.loc ≡ Some d → Reads d (u ++ t ∷ [])
-sound_close_block t d is (in_block {acc = acc} {fs = fs} {u = u} {ts = ts} opening is_opening f ds) h =
-    same_place h (moves (ended f (other_fine fs acc) (λ n. Grammar.block opening t is_opening is ds)) (simp append_assoc))
+sound_statement : {fs : List Frame} {u te : List Token} {b : Token} {e : Expr} {l : Loc} (semicolon : Token) → Frames AStatement fs u b → SpellsExpr e l (b ∷ te) → Is semicolon P.Semicolon →
+    HasRead (at (After (statement_of (in_prologue fs) e (through l semicolon.loc)) (through l semicolon.loc)) fs) (u ++ b ∷ (te ++ semicolon ∷ []))
+sound_statement {fs = fs} semicolon f s is = by_form s f refl
   where
-    other_fine : (fs : List Frame) (acc : Stmts) → not (in_prologue fs && false) ≡ true
-    other_fine fs acc = by_bool (in_prologue fs)
-      where
-        by_bool : (b : Bool) → not (b && false) ≡ true
-        by_bool true = refl
-        by_bool false = refl
-sound_close_block t d is f h = absurd cc
+    by_form : {e : Expr} {l : Loc} {us u te : List Token} {b : Token} → SpellsExpr e l us → Frames AStatement fs u b → us ≡ b ∷ te →
+        HasRead (at (After (statement_of (in_prologue fs) e (through l semicolon.loc)) (through l semicolon.loc)) fs) (u ++ b ∷ (te ++ semicolon ∷ []))
+    by_form {e = StringLiteral m x} {l = l} {u = u} {te = te} {b = b} (Grammar.string {t = t} {bytes = bytes} is_t) f q =
+        let head : t ≡ b = cc in
+        let tail : [] ≡ te = cc in
+        subst (λ z. HasRead (at (After (statement_of (in_prologue fs) (StringLiteral (Some t.loc) (spelled bytes)) (through t.loc semicolon.loc)) (through t.loc semicolon.loc)) fs) (u ++ z)) (ap (λ z. z ∷ semicolon ∷ []) head ∙ ap (λ z. b ∷ (z ++ semicolon ∷ [])) tail)
+        (string_stands bytes t semicolon (in_prologue fs) refl (subst (λ z. Frames AStatement fs u z) (sym head) f) is_t is)
+    by_form {e = e} {l = l} d f q = plain_stands semicolon f (subst (λ z. SpellsExpr e l z) q d) is refl
 
-sound_close_file : {fs : List Frame} {u : List Token} (t : Token) (d : Config) → t.kind ≡ End → Frames AStatement fs u t → close_file fs ≡ Some d → Reads d (u ++ t ∷ [])
-sound_close_file t d is (in_body ds) h = same_place h (finished (Grammar.file t is ds))
-sound_close_file t d is f h = absurd cc
+-- ---- an expression stands there, and this token follows
 
--- a statement that is no string is none anywhere
-pub never : (b : Bool) → not (b && false) ≡ true
-never true = refl
-never false = refl
-
-sound_begin_word : {fs : List Frame} {u : List Token} (t : Token) (word : List ℕ) (c : WordClass) (d : Config) → IsWord t word → class_of word ≡ c → Frames AStatement fs u t → begin_word c word t.loc fs ≡ Some d → Reads d (u ++ t ∷ [])
-sound_begin_word t word VarWord d is of f h = same_place h (naming t (is ∙ ap Word (fits_as word VarWord of)) no_declared f)
-sound_begin_word t word IfWord d is of f h = same_place h (opening_test {test = OfIf} t (is ∙ ap Word (fits_as word IfWord of)) f)
-sound_begin_word t word WhileWord d is of f h = same_place h (opening_test {test = OfWhile} t (is ∙ ap Word (fits_as word WhileWord of)) f)
-sound_begin_word t word NullWord d is of f h = sound_word t word NullWord _ d (in_expression f) is of refl h
-sound_begin_word t word TrueWord d is of f h = sound_word t word TrueWord _ d (in_expression f) is of refl h
-sound_begin_word t word FalseWord d is of f h = sound_word t word FalseWord _ d (in_expression f) is of refl h
-sound_begin_word t word NameWord d is of f h = sound_word t word NameWord _ d (in_expression f) is of refl h
-sound_begin_word t word ElseWord d is of f h = absurd cc
-sound_begin_word t word OtherKeyword d is of f h = absurd cc
-
-pub sound_begin : {fs : List Frame} {u : List Token} (t : Token) (k : Kind) (d : Config) → t.kind ≡ k → Frames AStatement fs u t → begin k t.loc fs ≡ Some d → Reads d (u ++ t ∷ [])
-sound_begin t (Word word) d is f h = sound_begin_word t word (class_of word) d is refl f h
-sound_begin t (Numeral digits) d is f h = same_place h (having (in_expression f) (omega arith) (Grammar.number is))
-sound_begin t (T.StringLiteral bytes) d is f h = same_place h (having (in_expression f) (omega arith) (Grammar.string is))
-sound_begin t (T.Punctuator P.OpenBrace) d is f h = same_place h (starting refl (λ n. in_block t is f Grammar.no_statement))
-sound_begin t (T.Punctuator P.CloseBrace) d is f h = sound_close_block t d is f h
-sound_begin {fs = fs} t (T.Punctuator P.Semicolon) d is f h = same_place h (ended f (never (in_prologue fs)) (λ n. Grammar.empty is))
-sound_begin t (T.Punctuator P.OpenParenthesis) d is f h = same_place h (wanting refl (λ n. in_parentheses t is (in_expression f)))
-sound_begin t End d is f h = sound_close_file t d is f h
-sound_begin t k d is f h = absurd cc
-
--- ---- a statement has been read, and this token follows
-
-pub sound_after : {fs : List Frame} {u : List Token} {b : Token} → Frames AStatement fs u b → (s : Stmt) (l : Loc) (ts : List Token) (t : Token) (d : Config) → fine fs s ≡ true → SpellsStmt s l (b ∷ ts) t → after fs s l t.kind t.loc ≡ Some d →
-    Reads d ((u ++ b ∷ ts) ++ t ∷ [])
-sound_after (in_body ds) s l ts t d ok d1 h = sound_begin t t.kind d refl (in_body (body_then ts ds d1 ok)) h
-sound_after (in_block {u = u} {ts = us} {n = b} opening is f ds) s l ts t d ok d1 h =
-    moves (sound_begin t t.kind d refl (in_block opening is f (stmts_then ts ds d1)) h) (ap (λ x. x ++ t ∷ []) (sym (append_assoc u (opening ∷ us) (b ∷ ts))))
-sound_after (in_if {c = c} {fs = fs} {u = u} {tc = tc} {n = b} word opening closing is_word is_opening is_closing dc f) s l ts t d ok d1 h =
-    elim (chosen (is_else t.kind) (Some (at Begin (InElse word.loc c s ∷ fs))) (after fs (If (Some (through word.loc l)) c s none_stmt) (through word.loc l) t.kind t.loc) (Some d) h) [
-      | inl p ↦ same_place p.1 (moves (starting refl (λ n. in_else word opening closing t is_word is_opening is_closing (else_word t.kind p.0) dc d1 f)) (simp append_assoc))
+sound_have : {fs : List Frame} {u : List Token} {b : Token} → Frames AnExpression fs u b → (e : Expr) (l : Loc) (te : List Token) (t : Token) (d : Config) → needs fs ≤ level e → SpellsExpr e l (b ∷ te) → have fs e l t.kind t.loc ≡ Some d →
+    HasRead d ((u ++ b ∷ te) ++ t ∷ [])
+sound_have (in_binary {o = o} {a = a} {la = la} {fs = fs} {u = u} {ta = ta} {b = ba} {n = b} sign is_o is_sign low high da f) e l te t d le s h =
+    elim (two_ways (InBinary o a la) fs e l t.kind t.loc d h) [
+      | inl p ↦ takes_on (in_binary sign is_o is_sign low high da f) e l te t d s p
+      | inr p ↦ moves (sound_have f (Binary (Some (through la l)) o a e) (through la l) (ta ++ sign ∷ b ∷ te) t d low (Grammar.operation sign is_o is_sign high le da s) p.1) (simp append_assoc)
+    ]
+sound_have (in_assignment {x = x} {lx = lx} {fs = fs} {u = u} {tx = tx} {b = bx} {n = b} sign is_sign low is_x dx f) e l te t d le s h =
+    elim (two_ways (InAssignment x lx) fs e l t.kind t.loc d h) [
+      | inl p ↦ takes_on (in_assignment sign is_sign low is_x dx f) e l te t d s p
+      | inr p ↦ moves (sound_have f (Assignment (Some (through lx l)) assign.Assign x e) (through lx l) (tx ++ sign ∷ b ∷ te) t d low (Grammar.assigns sign is_sign is_x le dx s) p.1) (simp append_assoc)
+    ]
+sound_have (in_parentheses {fs = fs} {u = u} {n = b} opening is_opening f) e l te t d le s h =
+    elim (two_ways (InParentheses opening.loc) fs e l t.kind t.loc d h) [
+      | inl p ↦ takes_on (in_parentheses opening is_opening f) e l te t d s p
       | inr p ↦
-          let differs = λ (q : IsWord t (codes "else")). true≢false (sym an_else ∙ sym (ap is_else q) ∙ p.0) in
-          moves (sound_after f (If (Some (through word.loc l)) c s none_stmt) (through word.loc l) (opening ∷ (tc ++ closing ∷ b ∷ ts)) t d (never (in_prologue fs))
-          (Grammar.if_only word opening closing is_word is_opening is_closing dc d1 differs) p.1) (simp append_assoc)
+          let q = closing_token (InParentheses opening.loc) fs e l t.kind t.loc d p.1 in
+          let r = close_parentheses opening.loc fs e l q.0 t.loc d q.2 in
+          let n = needs_low fs in
+          subst (λ c. HasRead c ((((u ++ opening ∷ []) ++ b ∷ te)) ++ t ∷ [])) r.1
+          (moves (having f (omega arith) (Grammar.parentheses opening t is_opening (q.1 ∙ ap T.Punctuator r.0) s)) (simp append_assoc))
     ]
-sound_after (in_else {c = c} {s = a} {fs = fs} {u = u} {tc = tc} {ts = ta} {n = b} word opening closing other is_word is_opening is_closing is_other dc da f) s l ts t d ok d1 h =
-    moves (sound_after f (If (Some (through word.loc l)) c a (some_stmt s)) (through word.loc l) (opening ∷ (tc ++ closing ∷ (ta ++ other ∷ b ∷ ts))) t d (never (in_prologue fs))
-    (Grammar.if_else word opening closing other is_word is_opening is_closing is_other dc da d1) h) (simp append_assoc)
-sound_after (in_while {c = c} {fs = fs} {u = u} {tc = tc} {n = b} word opening closing is_word is_opening is_closing dc f) s l ts t d ok d1 h =
-    moves (sound_after f (While (Some (through word.loc l)) c s) (through word.loc l) (opening ∷ (tc ++ closing ∷ b ∷ ts)) t d (never (in_prologue fs))
-    (Grammar.while word opening closing is_word is_opening is_closing dc d1) h) (simp append_assoc)
-
--- ---- an expression stands there, and a token joins it to what follows
-
-join_operator : (k : Kind) (o : BinaryOperator) → join k ≡ ByOperator o → (p : P.Punctuator) × Sign o p × (k ≡ T.Punctuator p)
-join_operator (T.Punctuator P.Plus) o h = let e : binary.Add ≡ o = cc in (P.Plus, subst (λ x. Sign x P.Plus) e plus, refl)
-join_operator (T.Punctuator P.Minus) o h = let e : binary.Subtract ≡ o = cc in (P.Minus, subst (λ x. Sign x P.Minus) e minus, refl)
-join_operator (T.Punctuator P.LessThan) o h = let e : binary.LessThan ≡ o = cc in (P.LessThan, subst (λ x. Sign x P.LessThan) e less, refl)
-join_operator k o h = absurd cc
-
-join_call : (k : Kind) → join k ≡ ByCall → k ≡ T.Punctuator P.OpenParenthesis
-join_call (T.Punctuator P.OpenParenthesis) h = refl
-join_call k h = absurd cc
-
-join_assignment : (k : Kind) → join k ≡ ByAssignment → k ≡ T.Punctuator P.Assign
-join_assignment (T.Punctuator P.Assign) h = refl
-join_assignment k h = absurd cc
-
-sound_joined : (j : Join) (fs : List Frame) (e : Expr) (l : Loc) (t : Token) (d : Config) {u te : List Token} {b : Token} → join t.kind ≡ j → needs fs ≤ strength j → wants j ≤ level e → Frames AnExpression fs u b → SpellsExpr e l (b ∷ te) →
-    joined j e l fs t.loc ≡ Some d → Reads d ((u ++ b ∷ te) ++ t ∷ [])
-sound_joined (ByOperator o) fs e l t d is_j low high f s h =
-    let q = join_operator t.kind o is_j in
-    same_place h (moves (wanting refl (λ n. in_binary t q.1 q.2 low high s f)) (simp append_assoc))
-sound_joined ByCall fs e l t d is_j low high f s h = same_place h (moves (wanting refl (λ n. in_call t (join_call t.kind is_j) high s no_item f)) (simp append_assoc))
-sound_joined ByAssignment fs e l t d {u = u} {te = te} {b = b} is_j low high f s h =
-    let g = guarded (is_target e) (at Want (InAssignment e l ∷ fs)) d h in
-    subst (λ c. Reads c ((u ++ b ∷ te) ++ t ∷ [])) g.1 (moves (wanting refl (λ n. in_assignment t (join_assignment t.kind is_j) low g.0 s f)) (simp append_assoc))
-sound_joined Apart fs e l t d is_j low high f s h = absurd cc
-
-pub sound_shift : (fs : List Frame) (e : Expr) (l : Loc) (t : Token) (d : Config) {u te : List Token} {b : Token} → needs fs ≤ strength (join t.kind) → Frames AnExpression fs u b → SpellsExpr e l (b ∷ te) → shift (join t.kind) e l fs t.loc ≡ Some d →
-    Reads d ((u ++ b ∷ te) ++ t ∷ [])
-sound_shift fs e l t d low f s h =
-    elim (chosen (nat_le (wants (join t.kind)) (level e)) (joined (join t.kind) e l fs t.loc) None (Some d) h) [
-      | inl p ↦ sound_joined (join t.kind) fs e l t d refl low (leb-true (wants (join t.kind)) (level e) p.0) f s p.1
-      | inr p ↦ absurd cc
+sound_have (in_call {g = g} {xs = xs} {lg = lg} {fs = fs} {u = u} {tg = tg} {ts = ts} {b = bg} {n = b} opening is_opening high dg i f) e l te t d le s h =
+    elim (two_ways (InCall g lg xs) fs e l t.kind t.loc d h) [
+      | inl p ↦ takes_on (in_call opening is_opening high dg i f) e l te t d s p
+      | inr p ↦
+          let q = closing_token (InCall g lg xs) fs e l t.kind t.loc d p.1 in
+          let n = needs_low fs in
+          elim (close_arguments g lg xs fs e l q.0 t.loc d q.2) [
+            | inl r ↦
+                let all = subst (λ x. Grammar.SpellsArguments x (ts ++ b ∷ te)) (exprs_last xs e) (items_then i (last_argument le s)) in
+                subst (λ c. HasRead c (((u ++ bg ∷ (tg ++ opening ∷ ts)) ++ b ∷ te) ++ t ∷ [])) r.1
+                (moves (having f (omega arith) (Grammar.call opening t is_opening (q.1 ∙ ap T.Punctuator r.0) high dg all)) (simp append_assoc))
+            | inr r ↦
+                subst (λ c. HasRead c (((u ++ bg ∷ (tg ++ opening ∷ ts)) ++ b ∷ te) ++ t ∷ [])) r.1
+                (moves (wanting refl (λ m. in_call opening is_opening high dg (one_item t (q.1 ∙ ap T.Punctuator r.0) i le s) f)) (simp append_assoc))
+          ]
+    ]
+sound_have (in_expression {fs = fs} {u = u} {n = b} f) e l te t d le s h =
+    elim (two_ways InExpression fs e l t.kind t.loc d h) [
+      | inl p ↦ takes_on (in_expression f) e l te t d s p
+      | inr p ↦
+          let q = closing_token InExpression fs e l t.kind t.loc d p.1 in
+          let r = close_statement fs e l q.0 t.loc d q.2 in
+          subst (λ c. HasRead c ((u ++ b ∷ te) ++ t ∷ [])) r.1 (moves (sound_statement t f s (q.1 ∙ ap T.Punctuator r.0)) (simp append_assoc))
+    ]
+sound_have (in_test {test = OfIf} {fs = fs} {u = u} {n = b} word opening is_word is_opening f) e l te t d le s h =
+    elim (two_ways (InTest OfIf word.loc) fs e l t.kind t.loc d h) [
+      | inl p ↦ takes_on (in_test {test = OfIf} word opening is_word is_opening f) e l te t d s p
+      | inr p ↦
+          let q = closing_token (InTest OfIf word.loc) fs e l t.kind t.loc d p.1 in
+          let r = close_test OfIf word.loc fs e l q.0 t.loc d q.2 in
+          subst (λ c. HasRead c (((u ++ word ∷ opening ∷ []) ++ b ∷ te) ++ t ∷ [])) r.1 (moves (starting refl (λ n. in_if word opening t is_word is_opening (q.1 ∙ ap T.Punctuator r.0) s f)) (simp append_assoc))
+    ]
+sound_have (in_test {test = OfWhile} {fs = fs} {u = u} {n = b} word opening is_word is_opening f) e l te t d le s h =
+    elim (two_ways (InTest OfWhile word.loc) fs e l t.kind t.loc d h) [
+      | inl p ↦ takes_on (in_test {test = OfWhile} word opening is_word is_opening f) e l te t d s p
+      | inr p ↦
+          let q = closing_token (InTest OfWhile word.loc) fs e l t.kind t.loc d p.1 in
+          let r = close_test OfWhile word.loc fs e l q.0 t.loc d q.2 in
+          subst (λ c. HasRead c (((u ++ word ∷ opening ∷ []) ++ b ∷ te) ++ t ∷ [])) r.1 (moves (starting refl (λ n. in_while word opening t is_word is_opening (q.1 ∙ ap T.Punctuator r.0) s f)) (simp append_assoc))
+    ]
+sound_have (in_initializer {ds = ds} {name = name} {fs = fs} {u = u} {td = td} {n = b} word v sign is_word dd is_name plain is_sign f) e l te t d le s h =
+    elim (two_ways (InInitializer word.loc ds name v.loc) fs e l t.kind t.loc d h) [
+      | inl p ↦ takes_on (in_initializer word v sign is_word dd is_name plain is_sign f) e l te t d s p
+      | inr p ↦
+          let q = closing_token (InInitializer word.loc ds name v.loc) fs e l t.kind t.loc d p.1 in
+          let this : SpellsDeclarator (declarator_of name v.loc e l) (v ∷ sign ∷ b ∷ te) = Grammar.initialized sign is_name plain is_sign le s in
+          elim (close_initializer word.loc ds name v.loc fs e l q.0 t.loc d q.2) [
+            | inl r ↦
+                let all = subst (λ x. SpellsDeclarators x (td ++ v ∷ sign ∷ b ∷ te)) (declarators_last ds (declarator_of name v.loc e l)) (declared_then dd (one this)) in
+                subst (λ c. HasRead c (((u ++ word ∷ (td ++ v ∷ sign ∷ [])) ++ b ∷ te) ++ t ∷ [])) r.1
+                (moves (ended f (never (in_prologue fs)) (λ n. Grammar.var word t is_word (q.1 ∙ ap T.Punctuator r.0) all)) (simp append_assoc))
+            | inr r ↦
+                subst (λ c. HasRead c (((u ++ word ∷ (td ++ v ∷ sign ∷ [])) ++ b ∷ te) ++ t ∷ [])) r.1
+                (moves (naming word is_word (one_declared t (q.1 ∙ ap T.Punctuator r.0) dd this) f) (simp append_assoc))
+          ]
     ]
 
--- the two ways that a token may go
-pub two_ways : (f : Frame) (fs : List Frame) (e : Expr) (l : Loc) (k : Kind) (lt : Loc) (d : Config) → have (f ∷ fs) e l k lt ≡ Some d →
-    ((need f ≤ strength (join k)) × (shift (join k) e l (f ∷ fs) lt ≡ Some d)) ⊎ ((strength (join k) < need f) × (or_close (grown f e l) (λ g lg. have fs g lg k lt) (close_kind f fs e l k lt) ≡ Some d))
-two_ways f fs e l k lt d h =
-    elim (chosen (nat_le (need f) (strength (join k))) (shift (join k) e l (f ∷ fs) lt) (or_close (grown f e l) (λ g lg. have fs g lg k lt) (close_kind f fs e l k lt)) (Some d) h) [
-      | inl p ↦ inl (leb-true (need f) (strength (join k)) p.0, p.1)
-      | inr p ↦ inr (leb-false (need f) (strength (join k)) p.0, p.1)
-    ]
+-- ---- a step, and a run
 
--- ---- the tokens that end a frame
+sound_open : (test : Test) (word : Token) (fs : List Frame) (t : Token) (k : Kind) (d : Config) {u : List Token} → t.kind ≡ k → HeadWord test word → Frames AStatement fs u word → want_open test word.loc k fs ≡ Some d → HasRead d ((u ++ word ∷ []) ++ t ∷ [])
+sound_open test word fs t (T.Punctuator P.OpenParenthesis) d is is_word f h = same_place h (moves (wanting refl (λ n. in_test word t is_word is f)) (simp append_assoc))
+sound_open test word fs t k d is is_word f h = absurd cc
 
-pub closing_token : (f : Frame) (fs : List Frame) (e : Expr) (l : Loc) (k : Kind) (lt : Loc) (d : Config) → close_kind f fs e l k lt ≡ Some d → (p : P.Punctuator) × (k ≡ T.Punctuator p) × (close f fs e l p lt ≡ Some d)
-closing_token f fs e l (T.Punctuator p) lt d h = (p, refl, h)
-closing_token f fs e l k lt d h = absurd cc
+sound_name : (word : Token) (ds : Declarators) (fs : List Frame) (t : Token) (name : List ℕ) (c : Option ReservedWord) (d : Config) {u td : List Token} → IsWord t name → reserved_word name ≡ c → IsWord word (codes "var") → SpellsDeclared ds td → Frames AStatement fs u word →
+    name_class c word.loc ds name t.loc fs ≡ Some d → HasRead d ((u ++ word ∷ td) ++ t ∷ [])
+sound_name word ds fs t name None d is of is_word dd f h = same_place h (moves (named word t is_word dd is (fits_as name None of) f) (simp append_assoc))
+sound_name word ds fs t name c d is of is_word dd f h = absurd cc
 
-pub close_parentheses : (o : Loc) (fs : List Frame) (e : Expr) (l : Loc) (p : P.Punctuator) (c : Loc) (d : Config) → close (InParentheses o) fs e l p c ≡ Some d →
-    (p ≡ P.CloseParenthesis) × (at (Have (Parenthesized (Some (through o c)) e) (through o c)) fs ≡ d)
-close_parentheses o fs e l P.CloseParenthesis c d h = (refl, cc)
-close_parentheses o fs e l p c d h = absurd cc
+sound_want_name : (word : Token) (ds : Declarators) (fs : List Frame) (t : Token) (k : Kind) (d : Config) {u td : List Token} → t.kind ≡ k → IsWord word (codes "var") → SpellsDeclared ds td → Frames AStatement fs u word →
+    want_name word.loc ds k t.loc fs ≡ Some d → HasRead d ((u ++ word ∷ td) ++ t ∷ [])
+sound_want_name word ds fs t (Word name) d is is_word dd f h = sound_name word ds fs t name (reserved_word name) d is refl is_word dd f h
+sound_want_name word ds fs t k d is is_word dd f h = absurd cc
 
-pub close_arguments : (g : Expr) (lg : Loc) (xs : Exprs) (fs : List Frame) (e : Expr) (l : Loc) (p : P.Punctuator) (c : Loc) (d : Config) → close (InCall g lg xs) fs e l p c ≡ Some d →
-    ((p ≡ P.CloseParenthesis) × (at (Have (Call (Some (through lg c)) g (push_exprs xs e)) (through lg c)) fs ≡ d)) ⊎ ((p ≡ P.Comma) × (at Want (InCall g lg (push_exprs xs e) ∷ fs) ≡ d))
-close_arguments g lg xs fs e l P.CloseParenthesis c d h = inl (refl, cc)
-close_arguments g lg xs fs e l P.Comma c d h = inr (refl, cc)
-close_arguments g lg xs fs e l p c d h = absurd cc
+sound_have_name : (word : Token) (ds : Declarators) (name : List ℕ) (v : Token) (fs : List Frame) (t : Token) (k : Kind) (d : Config) {u td : List Token} → t.kind ≡ k → IsWord word (codes "var") → SpellsDeclared ds td → IsWord v name →
+    reserved_word name ≡ None → Frames AStatement fs u word → have_name_kind word.loc ds name v.loc k t.loc fs ≡ Some d → HasRead d ((u ++ word ∷ (td ++ v ∷ [])) ++ t ∷ [])
+sound_have_name word ds name v fs t (T.Punctuator P.Assign) d is is_word dd is_name plain f h = same_place h (moves (wanting refl (λ n. in_initializer word v t is_word dd is_name plain is f)) (simp append_assoc))
+sound_have_name word ds name v fs t (T.Punctuator P.Comma) d is is_word dd is_name plain f h =
+    same_place h (moves (naming word is_word (one_declared t is dd (Grammar.plain {t = v} {word = name} is_name plain)) f) (simp append_assoc))
+sound_have_name word ds name v fs t (T.Punctuator P.Semicolon) d {u = u} {td = td} is is_word dd is_name plain f h =
+    let this : SpellsDeclarator (plain_declarator_of name v.loc) (v ∷ []) = Grammar.plain is_name plain in
+    let all = subst (λ x. SpellsDeclarators x (td ++ v ∷ [])) (declarators_last ds (plain_declarator_of name v.loc)) (declared_then dd (one this)) in
+    same_place h (moves (ended f (never (in_prologue fs)) (λ n. Grammar.var word t is_word is all)) (simp append_assoc))
+sound_have_name word ds name v fs t k d is is_word dd is_name plain f h = absurd cc
 
-pub close_statement : (fs : List Frame) (e : Expr) (l : Loc) (p : P.Punctuator) (c : Loc) (d : Config) → close InExpression fs e l p c ≡ Some d →
-    (p ≡ P.Semicolon) × (at (After (statement_of (in_prologue fs) e (through l c)) (through l c)) fs ≡ d)
-close_statement fs e l P.Semicolon c d h = (refl, cc)
-close_statement fs e l p c d h = absurd cc
+pub sound_step : {c : Config} {u : List Token} → HasRead c u → (t : Token) (d : Config) → step c t ≡ Some d → HasRead d (u ++ t ∷ [])
+sound_step (wanting has f) t d h = sound_want t t.kind d refl (f t) h
+sound_step (having {e = e} {l = l} {te = te} f le s) t d h = sound_have f e l te t d le s h
+sound_step (starting fresh f) t d h = sound_begin t t.kind d refl (f t) h
+sound_step (ended {s = s} {l = l} {ts = ts} f ok ds) t d h = sound_after f s l ts t d ok (ds t) h
+sound_step (directed {ts = ts} r semicolon dirs is is_semicolon ds) t d h = sound_begin t t.kind d refl (in_body (directives_then r semicolon ds dirs is is_semicolon)) h
+sound_step (opening_test {test = test} {fs = fs} word is f) t d h = sound_open test word fs t t.kind d refl is f h
+sound_step (naming {ds = ds} {fs = fs} word is dd f) t d h = sound_want_name word ds fs t t.kind d refl is dd f h
+sound_step (named {ds = ds} {name = name} {fs = fs} word v is dd is_name plain f) t d h = sound_have_name word ds name v fs t t.kind d refl is dd is_name plain f h
+sound_step (finished s) t d h = absurd cc
 
-pub close_test : (t : Test) (w : Loc) (fs : List Frame) (e : Expr) (l : Loc) (p : P.Punctuator) (c : Loc) (d : Config) → close (InTest t w) fs e l p c ≡ Some d → (p ≡ P.CloseParenthesis) × (at Begin (test_frame t w e ∷ fs) ≡ d)
-close_test t w fs e l P.CloseParenthesis c d h = (refl, cc)
-close_test t w fs e l p c d h = absurd cc
+pub sound_run : (ts : List Token) {c : Config} {u : List Token} → HasRead c u → (d : Config) → run c ts ≡ Some d → HasRead d (u ++ ts)
+sound_run [] {c = c} {u = u} r d h = same_place h (moves r (sym (append-nil u)))
+sound_run (t ∷ ts) {c = c} {u = u} r d h = by_step (step c t) refl (λ x e k. sound_run ts (sound_step r t x e) d k) h
+  where
+    by_step : (o : Option Config) → step c t ≡ o → ((x : Config) → step c t ≡ Some x → run x ts ≡ Some d → HasRead d ((u ++ t ∷ []) ++ ts)) → then_run o (λ x. run x ts) ≡ Some d → HasRead d (u ++ t ∷ ts)
+    by_step None e go h = absurd cc
+    by_step (Some x) e go h = moves (go x e h) (simp append_assoc)
 
-pub close_initializer : (w : Loc) (ds : Declarators) (name : List ℕ) (ln : Loc) (fs : List Frame) (e : Expr) (l : Loc) (p : P.Punctuator) (c : Loc) (d : Config) → close (InInitializer w ds name ln) fs e l p c ≡ Some d →
-    ((p ≡ P.Semicolon) × (declared w (push_declarators ds (declarator_of name ln e l)) c fs ≡ d)) ⊎ ((p ≡ P.Comma) × (at (WantName w (push_declarators ds (declarator_of name ln e l))) fs ≡ d))
-close_initializer w ds name ln fs e l P.Semicolon c d h = inl (refl, cc)
-close_initializer w ds name ln fs e l P.Comma c d h = inr (refl, cc)
-close_initializer w ds name ln fs e l p c d h = absurd cc
+-- what has been read from the start stands there
+pub stands : (ts : List Token) (c : Config) → run start ts ≡ Some c → HasRead c ts
+stands ts c h = sound_run ts (starting refl (λ n. in_body (Grammar.statements refl Grammar.no_statement))) c h
+
+the_sentence : {ss : Stmts} {fs : List Frame} {u : List Token} → HasRead (at (Finished ss) fs) u → Sentence (MakeFile ss []) u
+the_sentence (finished s) = s
+
+-- what is read is a sentence
+pub sound : (ts : List Token) (ss : Stmts) (fs : List Frame) → run start ts ≡ Some (at (Finished ss) fs) → Sentence (MakeFile ss []) ts
+sound ts ss fs h = the_sentence (stands ts (at (Finished ss) fs) h)

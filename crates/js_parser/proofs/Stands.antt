@@ -1,20 +1,21 @@
 -- What the frames of the machine stand for: the tokens that have been read.
-use Rattle.std.proofs.Common.{◌≡◌, ℕ, ◌≤◌, Bool, true, false, not, ◌&&◌, List, [], ◌∷◌, ◌++◌, Some, codes, refl, sym, ap, subst, ◌∙◌, arith, append_assoc, append-nil}
+use Rattle.std.proofs.Common.{◌≡◌, ℕ, ◌≤◌, Bool, true, false, not, ◌&&◌, List, [], ◌∷◌, ◌++◌, Some, codes, refl, sym, ap, subst, ◌∙◌, arith, append_assoc, append-nil, None}
 use Rattle.std.proofs.lemmas.Bool.{true≢false}
 use Rattle.js_tree.specs.declared.place.Loc.{Loc}
 use Rattle.js_tree.specs.declared.operators.BinaryOperator.{BinaryOperator}
 use Rattle.js_tree.specs.Plain.{Expr, Exprs, more_expr, Stmt, Stmts, Directive, no_stmt, more_stmt, push_stmts, Declarators, more_declarator, MakeFile}
 use Rattle.js_text.specs.Token.{Token, Kind, Word}
 use Rattle.js_text.specs.Token as T
-use Rattle.js_text.specs.Punctuator as P
-use Rattle.js_text.specs.Keyword.{is_keyword}
+use Rattle.js_text.specs.declared.punctuator.Punctuator.{Punctuator}
+use Rattle.js_text.specs.declared.punctuator.Punctuator.TheVariants as P
+use Rattle.js_text.specs.Word.{reserved_word}
 use Rattle.js_text.specs.Level.{level, binary_level, left_level, assignment, called}
 use Rattle.js_text.specs.Grammar.{through, Is, IsWord, spelled, Sign, is_target, SpellsExpr, SpellsArguments, more_arguments, SpellsDeclarators, more, first, SpellsStmt, SpellsStmts, no_statement, more_statements, is_string_statement, SpellsBody, directive, statements, Sentence}
 use Rattle.js_text.specs.Begins.{SpellsItems, no_item, one_item, SpellsDeclared, no_declared, one_declared}
 use Rattle.js_parser.specs.Machine.{Test, OfIf, OfWhile, Frame, InBinary, InParentheses, InCall, InAssignment, InExpression, InTest, InInitializer, InIf, InElse, InWhile, InBlock, InBody, Want, Have, Begin, After, WantOpen, WantName, HaveName, Finished, Config, at, need, are_directives}
 use Rattle.js_parser.proofs.Levels.{right_high}
 use Rattle.js_parser.proofs.Lists.{append_exprs, exprs_push, append_declarators, declarators_push}
-use Rattle.js_parser.proofs.Whole.{fine, no_directive}
+use Rattle.js_parser.proofs.Complete.{fine, no_directive}
 
 -- what the innermost frame needs of its missing part
 abbrev pub needs : List Frame → ℕ
@@ -56,7 +57,7 @@ pub data Frames : Missing → List Frame → List Token → Token → Type 0 whe
   in_test : {test : Test} {fs : List Frame} {u : List Token} {n : Token} (word opening : Token) → HeadWord test word → Is opening P.OpenParenthesis → Frames AStatement fs u word →
       Frames AnExpression (InTest test word.loc ∷ fs) (u ++ word ∷ opening ∷ []) n
   in_initializer : {ds : Declarators} {name : List ℕ} {fs : List Frame} {u td : List Token} {n : Token} (word t sign : Token) → IsWord word (codes "var") → SpellsDeclared ds td →
-      IsWord t name → is_keyword name ≡ false → Is sign P.Assign → Frames AStatement fs u word → Frames AnExpression (InInitializer word.loc ds name t.loc ∷ fs) (u ++ word ∷ (td ++ t ∷ sign ∷ [])) n
+      IsWord t name → reserved_word name ≡ None → Is sign P.Assign → Frames AStatement fs u word → Frames AnExpression (InInitializer word.loc ds name t.loc ∷ fs) (u ++ word ∷ (td ++ t ∷ sign ∷ [])) n
   in_if : {c : Expr} {lc : Loc} {fs : List Frame} {u tc : List Token} {n : Token} (word opening closing : Token) → IsWord word (codes "if") → Is opening P.OpenParenthesis → Is closing P.CloseParenthesis →
       SpellsExpr c lc tc → Frames AStatement fs u word → Frames AStatement (InIf word.loc c ∷ fs) (u ++ word ∷ opening ∷ (tc ++ closing ∷ [])) n
   in_else : {c : Expr} {s : Stmt} {lc ls : Loc} {fs : List Frame} {u tc ts : List Token} {n : Token} (word opening closing other : Token) → IsWord word (codes "if") → Is opening P.OpenParenthesis →
@@ -64,7 +65,7 @@ pub data Frames : Missing → List Frame → List Token → Token → Type 0 whe
       Frames AStatement (InElse word.loc c s ∷ fs) (u ++ word ∷ opening ∷ (tc ++ closing ∷ (ts ++ other ∷ []))) n
   in_while : {c : Expr} {lc : Loc} {fs : List Frame} {u tc : List Token} {n : Token} (word opening closing : Token) → IsWord word (codes "while") → Is opening P.OpenParenthesis → Is closing P.CloseParenthesis →
       SpellsExpr c lc tc → Frames AStatement fs u word → Frames AStatement (InWhile word.loc c ∷ fs) (u ++ word ∷ opening ∷ (tc ++ closing ∷ [])) n
-  in_binary : {o : BinaryOperator} {p : P.Punctuator} {a : Expr} {la : Loc} {fs : List Frame} {u ta : List Token} {b n : Token} (sign : Token) → Sign o p → Is sign p → needs fs ≤ binary_level o → left_level o ≤ level a →
+  in_binary : {o : BinaryOperator} {p : Punctuator} {a : Expr} {la : Loc} {fs : List Frame} {u ta : List Token} {b n : Token} (sign : Token) → Sign o p → Is sign p → needs fs ≤ binary_level o → left_level o ≤ level a →
       SpellsExpr a la (b ∷ ta) → Frames AnExpression fs u b → Frames AnExpression (InBinary o a la ∷ fs) (u ++ b ∷ (ta ++ sign ∷ [])) n
   in_parentheses : {fs : List Frame} {u : List Token} {n : Token} (opening : Token) → Is opening P.OpenParenthesis → Frames AnExpression fs u opening → Frames AnExpression (InParentheses opening.loc ∷ fs) (u ++ opening ∷ []) n
   in_assignment : {x : Expr} {lx : Loc} {fs : List Frame} {u tx : List Token} {b n : Token} (sign : Token) → Is sign P.Assign → needs fs ≤ assignment → is_target x ≡ true →
@@ -73,18 +74,18 @@ pub data Frames : Missing → List Frame → List Token → Token → Type 0 whe
       SpellsExpr g lg (b ∷ tg) → SpellsItems xs ts → Frames AnExpression fs u b → Frames AnExpression (InCall g lg xs ∷ fs) (u ++ b ∷ (tg ++ opening ∷ ts)) n
 
 -- the tokens that have been read, at a place of the machine
-pub data Reads : Config → List Token → Type 0 where
-  wanting : {fs : List Frame} {u : List Token} → has_token fs ≡ true → ((n : Token) → Frames AnExpression fs u n) → Reads (at Want fs) u
-  having : {fs : List Frame} {e : Expr} {l : Loc} {u : List Token} {b : Token} {te : List Token} → Frames AnExpression fs u b → needs fs ≤ level e → SpellsExpr e l (b ∷ te) → Reads (at (Have e l) fs) (u ++ b ∷ te)
-  starting : {fs : List Frame} {u : List Token} → is_fresh fs ≡ true → ((n : Token) → Frames AStatement fs u n) → Reads (at Begin fs) u
-  ended : {fs : List Frame} {s : Stmt} {l : Loc} {u : List Token} {b : Token} {ts : List Token} → Frames AStatement fs u b → fine fs s ≡ true → ((n : Token) → SpellsStmt s l (b ∷ ts) n) → Reads (at (After s l) fs) (u ++ b ∷ ts)
+pub data HasRead : Config → List Token → Type 0 where
+  wanting : {fs : List Frame} {u : List Token} → has_token fs ≡ true → ((n : Token) → Frames AnExpression fs u n) → HasRead (at Want fs) u
+  having : {fs : List Frame} {e : Expr} {l : Loc} {u : List Token} {b : Token} {te : List Token} → Frames AnExpression fs u b → needs fs ≤ level e → SpellsExpr e l (b ∷ te) → HasRead (at (Have e l) fs) (u ++ b ∷ te)
+  starting : {fs : List Frame} {u : List Token} → is_fresh fs ≡ true → ((n : Token) → Frames AStatement fs u n) → HasRead (at Begin fs) u
+  ended : {fs : List Frame} {s : Stmt} {l : Loc} {u : List Token} {b : Token} {ts : List Token} → Frames AStatement fs u b → fine fs s ≡ true → ((n : Token) → SpellsStmt s l (b ∷ ts) n) → HasRead (at (After s l) fs) (u ++ b ∷ ts)
   directed : {acc : Stmts} {bytes : List ℕ} {ts : List Token} (t semicolon : Token) → are_directives acc ≡ true → t.kind ≡ T.StringLiteral bytes → Is semicolon P.Semicolon → SpellsBody acc ts t →
-      Reads (at (After (Directive (Some (through t.loc semicolon.loc)) (spelled bytes)) (through t.loc semicolon.loc)) (InBody acc ∷ [])) (ts ++ t ∷ semicolon ∷ [])
-  opening_test : {test : Test} {fs : List Frame} {u : List Token} (word : Token) → HeadWord test word → Frames AStatement fs u word → Reads (at (WantOpen test word.loc) fs) (u ++ word ∷ [])
-  naming : {ds : Declarators} {fs : List Frame} {u td : List Token} (word : Token) → IsWord word (codes "var") → SpellsDeclared ds td → Frames AStatement fs u word → Reads (at (WantName word.loc ds) fs) (u ++ word ∷ td)
-  named : {ds : Declarators} {name : List ℕ} {fs : List Frame} {u td : List Token} (word t : Token) → IsWord word (codes "var") → SpellsDeclared ds td → IsWord t name → is_keyword name ≡ false → Frames AStatement fs u word →
-      Reads (at (HaveName word.loc ds name t.loc) fs) (u ++ word ∷ (td ++ t ∷ []))
-  finished : {ss : Stmts} {ts : List Token} → Sentence (MakeFile ss []) ts → Reads (at (Finished ss) []) ts
+      HasRead (at (After (Directive (Some (through t.loc semicolon.loc)) (spelled bytes)) (through t.loc semicolon.loc)) (InBody acc ∷ [])) (ts ++ t ∷ semicolon ∷ [])
+  opening_test : {test : Test} {fs : List Frame} {u : List Token} (word : Token) → HeadWord test word → Frames AStatement fs u word → HasRead (at (WantOpen test word.loc) fs) (u ++ word ∷ [])
+  naming : {ds : Declarators} {fs : List Frame} {u td : List Token} (word : Token) → IsWord word (codes "var") → SpellsDeclared ds td → Frames AStatement fs u word → HasRead (at (WantName word.loc ds) fs) (u ++ word ∷ td)
+  named : {ds : Declarators} {name : List ℕ} {fs : List Frame} {u td : List Token} (word t : Token) → IsWord word (codes "var") → SpellsDeclared ds td → IsWord t name → reserved_word name ≡ None → Frames AStatement fs u word →
+      HasRead (at (HaveName word.loc ds name t.loc) fs) (u ++ word ∷ (td ++ t ∷ []))
+  finished : {ss : Stmts} {ts : List Token} → Sentence (MakeFile ss []) ts → HasRead (at (Finished ss) []) ts
 
 -- ---- lists
 

@@ -3,14 +3,15 @@ use Rattle.std.proofs.Common.{◌≡◌, ℕ, ◌<◌, List, [], ◌∷◌, ◌+
 use Rattle.js_tree.specs.Plain.{Stmts, File, MakeFile}
 use Rattle.js_tree.specs.Height.{height_file}
 use Rattle.js_text.specs.Place.{Place}
-use Rattle.js_text.specs.Token.{Token, Div}
+use Rattle.js_text.specs.declared.goal.Goal.TheVariants.{Div}
+use Rattle.js_text.specs.Token.{Token}
 use Rattle.js_text.specs.Lex.{next_token, token_place, offset_of}
 use Rattle.js_text.specs.Grammar.{Sentence}
 use Rattle.js_parser.specs.Machine.{Frame, Finished, Config, at, step, then_run, run, start}
 use Rattle.js_parser.specs.Floor.{floor}
 use Rattle.js_text.specs.Reads.{Lexes, no_token, one_more, goal_of, start_of, Reads, NoTree, TooHigh}
-use Rattle.js_parser.proofs.Whole.{complete, run-append, dead, bare}
-use Rattle.js_parser.proofs.Spelled.{sound}
+use Rattle.js_parser.proofs.Complete.{complete, run-append, dead, bare}
+use Rattle.js_parser.proofs.Sound.{sound}
 use Rattle.js_parser.proofs.Floor.{deep}
 use Rattle.js_parser.proofs.Begun.{begins_more}
 

@@ -1,10 +1,9 @@
-pub mod WordClass
-pub mod Class
 pub mod Machine
 pub mod Floor
-pub mod Part
+pub mod ReadHeights
 pub mod Make
 pub mod View
 pub mod Stack
 pub mod Turn
 pub mod Refused
+pub mod Head

@@ -8,8 +8,11 @@ use Rattle.js_tree.specs.declared.operators.VariableKind.TheVariants as variable
 use Rattle.js_tree.specs.Plain.{Expr, Exprs, IdentifierReference, NullLiteral, BooleanLiteral, NumericLiteral, StringLiteral, Parenthesized, Call, Binary, Assignment, no_expr, push_exprs, Stmt, Stmts, Directive, Block, VariableDeclaration, Empty, Expression, If, While, no_stmt, more_stmt, push_stmts, none_stmt, some_stmt, none_expr, some_expr, Declarator, MakeDeclarator, Declarators, no_declarator, push_declarators, BindingIdentifier}
 use Rattle.js_text.specs.Token.{Token, Kind, Word, Numeral, End}
 use Rattle.js_text.specs.Token as T
-use Rattle.js_text.specs.Punctuator as P
-use Rattle.js_parser.specs.WordClass.{WordClass, NullWord, TrueWord, FalseWord, VarWord, IfWord, ElseWord, WhileWord, NameWord, class_of}
+use Rattle.js_text.specs.declared.punctuator.Punctuator.{Punctuator}
+use Rattle.js_text.specs.declared.punctuator.Punctuator.TheVariants as P
+use Rattle.js_text.specs.declared.word.ReservedWord.{ReservedWord}
+use Rattle.js_text.specs.declared.word.ReservedWord.TheVariants as reserved
+use Rattle.js_text.specs.Word.{reserved_word}
 use Rattle.js_text.specs.Grammar.{through, spelled, is_target}
 use Rattle.js_text.specs.Level.{level, binary_level, left_level, right_level, assignment, any, called}
 
@@ -50,11 +53,11 @@ pub data Config : Type 0 where
 
 -- ---- an operand begins
 
-abbrev pub word_operand : WordClass → List ℕ → Loc → Option Expr
-word_operand NullWord word l = Some (NullLiteral (Some l))
-word_operand TrueWord word l = Some (BooleanLiteral (Some l) true)
-word_operand FalseWord word l = Some (BooleanLiteral (Some l) false)
-word_operand NameWord word l = Some (IdentifierReference (Some l) word)
+abbrev pub word_operand : Option ReservedWord → List ℕ → Loc → Option Expr
+word_operand (Some reserved.Null) word l = Some (NullLiteral (Some l))
+word_operand (Some reserved.True) word l = Some (BooleanLiteral (Some l) true)
+word_operand (Some reserved.False) word l = Some (BooleanLiteral (Some l) false)
+word_operand None word l = Some (IdentifierReference (Some l) word)
 word_operand other word l = None
 
 abbrev pub have_if : Option Expr → Loc → List Frame → Option Config
@@ -65,13 +68,13 @@ abbrev pub close_call : List Frame → Loc → Option Config
 close_call (InCall f lf xs ∷ fs) c = Some (at (Have (Call (Some (through lf c)) f xs) (through lf c)) fs)
 close_call fs c = None
 
-abbrev pub want_punctuator : P.Punctuator → Loc → List Frame → Option Config
+abbrev pub want_punctuator : Punctuator → Loc → List Frame → Option Config
 want_punctuator P.OpenParenthesis l fs = Some (at Want (InParentheses l ∷ fs))
 want_punctuator P.CloseParenthesis l fs = close_call fs l
 want_punctuator p l fs = None
 
 abbrev pub want : Kind → Loc → List Frame → Option Config
-want (Word word) l fs = have_if (word_operand (class_of word) word l) l fs
+want (Word word) l fs = have_if (word_operand (reserved_word word) word l) l fs
 want (Numeral digits) l fs = Some (at (Have (NumericLiteral (Some l) digits) l) fs)
 want (T.StringLiteral bytes) l fs = Some (at (Have (StringLiteral (Some l) (spelled bytes)) l) fs)
 want (T.Punctuator p) l fs = want_punctuator p l fs
@@ -79,10 +82,10 @@ want End l fs = None
 
 -- ---- a statement begins, or a list of statements ends
 
-abbrev pub begin_word : WordClass → List ℕ → Loc → List Frame → Option Config
-begin_word VarWord word l fs = Some (at (WantName l no_declarator) fs)
-begin_word IfWord word l fs = Some (at (WantOpen OfIf l) fs)
-begin_word WhileWord word l fs = Some (at (WantOpen OfWhile l) fs)
+abbrev pub begin_word : Option ReservedWord → List ℕ → Loc → List Frame → Option Config
+begin_word (Some reserved.Var) word l fs = Some (at (WantName l no_declarator) fs)
+begin_word (Some reserved.If) word l fs = Some (at (WantOpen OfIf l) fs)
+begin_word (Some reserved.While) word l fs = Some (at (WantOpen OfWhile l) fs)
 begin_word class word l fs = have_if (word_operand class word l) l (InExpression ∷ fs)
 
 abbrev pub close_block : List Frame → Loc → Option Config
@@ -93,7 +96,7 @@ abbrev pub close_file : List Frame → Option Config
 close_file (InBody ss ∷ fs) = Some (at (Finished ss) fs)
 close_file fs = None
 
-abbrev pub begin_punctuator : P.Punctuator → Loc → List Frame → Option Config
+abbrev pub begin_punctuator : Punctuator → Loc → List Frame → Option Config
 begin_punctuator P.OpenBrace l fs = Some (at Begin (InBlock l no_stmt ∷ fs))
 begin_punctuator P.CloseBrace l fs = close_block fs l
 begin_punctuator P.Semicolon l fs = Some (at (After (Empty (Some l)) l) fs)
@@ -101,7 +104,7 @@ begin_punctuator P.OpenParenthesis l fs = Some (at Want (InParentheses l ∷ InE
 begin_punctuator p l fs = None
 
 abbrev pub begin : Kind → Loc → List Frame → Option Config
-begin (Word word) l fs = begin_word (class_of word) word l fs
+begin (Word word) l fs = begin_word (reserved_word word) word l fs
 begin (Numeral digits) l fs = Some (at (Have (NumericLiteral (Some l) digits) l) (InExpression ∷ fs))
 begin (T.StringLiteral bytes) l fs = Some (at (Have (StringLiteral (Some l) (spelled bytes)) l) (InExpression ∷ fs))
 begin (T.Punctuator p) l fs = begin_punctuator p l fs
@@ -109,12 +112,12 @@ begin End l fs = close_file fs
 
 -- ---- a statement stands there
 
-abbrev pub is_else_word : WordClass → Bool
-is_else_word ElseWord = true
+abbrev pub is_else_word : Option ReservedWord → Bool
+is_else_word (Some reserved.Else) = true
 is_else_word other = false
 
 abbrev pub is_else : Kind → Bool
-is_else (Word word) = is_else_word (class_of word)
+is_else (Word word) = is_else_word (reserved_word word)
 is_else other = false
 
 abbrev pub after : List Frame → Stmt → Loc → Kind → Loc → Option Config
@@ -135,7 +138,7 @@ pub data Join : Type 0 where
   ByAssignment : Join
   Apart : Join
 
-abbrev pub join_punctuator : P.Punctuator → Join
+abbrev pub join_punctuator : Punctuator → Join
 join_punctuator P.Plus = ByOperator binary.Add
 join_punctuator P.Minus = ByOperator binary.Subtract
 join_punctuator P.LessThan = ByOperator binary.LessThan
@@ -226,7 +229,7 @@ test_frame OfIf w c = InIf w c
 test_frame OfWhile w c = InWhile w c
 
 -- the token that closes a frame, or goes on in it
-abbrev pub close : Frame → List Frame → Expr → Loc → P.Punctuator → Loc → Option Config
+abbrev pub close : Frame → List Frame → Expr → Loc → Punctuator → Loc → Option Config
 close (InParentheses opening) fs e l P.CloseParenthesis c = Some (at (Have (Parenthesized (Some (through opening c)) e) (through opening c)) fs)
 close (InCall f lf xs) fs e l P.CloseParenthesis c = Some (at (Have (Call (Some (through lf c)) f (push_exprs xs e)) (through lf c)) fs)
 close (InCall f lf xs) fs e l P.Comma c = Some (at Want (InCall f lf (push_exprs xs e) ∷ fs))
@@ -252,15 +255,15 @@ have (f ∷ fs) e l k lt =
 
 -- ---- declarations and tests
 
-abbrev pub name_class : WordClass → Loc → Declarators → List ℕ → Loc → List Frame → Option Config
-name_class NameWord w ds word l fs = Some (at (HaveName w ds word l) fs)
+abbrev pub name_class : Option ReservedWord → Loc → Declarators → List ℕ → Loc → List Frame → Option Config
+name_class None w ds word l fs = Some (at (HaveName w ds word l) fs)
 name_class other w ds word l fs = None
 
 abbrev pub want_name : Loc → Declarators → Kind → Loc → List Frame → Option Config
-want_name w ds (Word word) l fs = name_class (class_of word) w ds word l fs
+want_name w ds (Word word) l fs = name_class (reserved_word word) w ds word l fs
 want_name w ds other l fs = None
 
-abbrev pub have_name : Loc → Declarators → List ℕ → Loc → P.Punctuator → Loc → List Frame → Option Config
+abbrev pub have_name : Loc → Declarators → List ℕ → Loc → Punctuator → Loc → List Frame → Option Config
 have_name w ds name ln P.Assign l fs = Some (at Want (InInitializer w ds name ln ∷ fs))
 have_name w ds name ln P.Comma l fs = Some (at (WantName w (push_declarators ds (plain_declarator_of name ln))) fs)
 have_name w ds name ln P.Semicolon l fs = Some (declared w (push_declarators ds (plain_declarator_of name ln)) l fs)
@@ -270,7 +273,7 @@ abbrev pub have_name_kind : Loc → Declarators → List ℕ → Loc → Kind �
 have_name_kind w ds name ln (T.Punctuator p) l fs = have_name w ds name ln p l fs
 have_name_kind w ds name ln other l fs = None
 
-abbrev pub open_test : Test → Loc → P.Punctuator → List Frame → Option Config
+abbrev pub open_test : Test → Loc → Punctuator → List Frame → Option Config
 open_test t w P.OpenParenthesis fs = Some (at Want (InTest t w ∷ fs))
 open_test t w p fs = None
 

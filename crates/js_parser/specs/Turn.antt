@@ -3,7 +3,8 @@ use Rattle.std.specs.Prelude.{◌≡◌, ◌<◌, ◌≤◌, ◌+◌, max, ℕ, 
 use Rattle.js_tree.specs.Height.{height_expr, height_stmt, height_declarators}
 use Rattle.js_tree.specs.Tree.{plain_stmts}
 use Rattle.js_text.specs.Place.{Place}
-use Rattle.js_text.specs.Token.{Token, Div}
+use Rattle.js_text.specs.declared.goal.Goal.TheVariants.{Div}
+use Rattle.js_text.specs.Token.{Token}
 use Rattle.js_text.specs.Lex.{next_token, token_place, offset_of}
 use Rattle.js_parser.specs.declared.frame.Mode as code
 use Rattle.js_parser.specs.declared.reader.Progress.{Progress}

@@ -14,7 +14,7 @@ use Rattle.js_parser.specs.declared.frame.Join as code_join
 use Rattle.js_parser.specs.declared.frame.Join.TheVariants as j
 use Rattle.js_parser.specs.declared.frame.Turn.{Turn}
 use Rattle.js_parser.specs.declared.frame.Turn.TheVariants as turn
-use Rattle.js_parser.specs.declared.part.Part.{Part}
+use Rattle.js_parser.specs.declared.read.ReadExpression.{ReadExpression}
 use Rattle.js_parser.specs.declared.refused.Refusal.{Refusal}
 use Rattle.js_parser.specs.declared.refused.Refusal.TheVariants as why
 use Rattle.js_parser.specs.Machine.{Test, OfIf, OfWhile, Frame, InBinary, InParentheses, InCall, InAssignment, InExpression, InTest, InInitializer, InIf, InElse, InWhile, InBlock, InBody, Mode, Want, Have, Begin, After, WantOpen, WantName, HaveName, Finished, Config, at, Join, ByOperator, ByCall, ByAssignment, Apart, step_kind, grown, or_close, close_kind, have}
@@ -84,7 +84,7 @@ abbrev pub taken : Frame → List Frame → P.Expr → Loc → Kind → Loc → 
 taken g fs e l k lt = or_close (grown g e l) (λ x lx. have fs x lx k lt) (close_kind g fs e l k lt)
 
 -- the operand that a word is, at its place, if it is one
-abbrev pub IsOperand : Option Part → Option P.Expr → Loc → Type 0
+abbrev pub IsOperand : Option ReadExpression → Option P.Expr → Loc → Type 0
 IsOperand None due l = due ≡ None
 IsOperand (Some part) due l = (due ≡ Some (plain_expr part.tree)) × (part.loc ≡ l)
 

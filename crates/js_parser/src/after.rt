@@ -7,8 +7,8 @@ ghost use Rattle.js_parser.specs.View as view;
 
 use crate::frame::{Frame, Mode, Turn, discard};
 use crate::join::is_else;
-use crate::part::Piece;
 use crate::prologue::statement;
+use crate::read::ReadStatement;
 use crate::stack::Stack;
 use crate::{Refusal, make};
 use js_lexer::TokenKind;
@@ -19,7 +19,7 @@ use std::alloc::Global;
 pub(crate) fn after(
     alloc: Global,
     stack: &mut Stack,
-    piece: Piece,
+    piece: ReadStatement,
     kind: TokenKind<'_>,
     loc: Loc,
 ) -> Result<Turn, Refusal>

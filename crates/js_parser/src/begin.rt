@@ -1,47 +1,60 @@
-ghost use Rattle.js_lexer.specs.Punctuator.{plain_punctuator};
 ghost use Rattle.js_lexer.specs.Token.{kind_of};
-ghost use Rattle.js_parser.specs.Class.{plain_class};
+ghost use Rattle.std.specs.Prelude.{◌≡◌, false};
+ghost use Rattle.js_parser.specs.Head.{heads_statement};
 ghost use Rattle.js_parser.specs.Machine as machine;
 ghost use Rattle.js_parser.specs.View.{Turns};
 ghost use Rattle.js_parser.specs.View as view;
 
 use crate::frame::{Frame, Mode, Test, Turn, discard};
-use crate::part::{Declared, Pieces};
 use crate::prologue::statement;
+use crate::read::{Declared, ReadStatements};
 use crate::stack::Stack;
 use crate::want::have_word;
-use crate::word::{WordClass, class_of};
 use crate::{Refusal, make};
 use items::Items;
 use js_lexer::{Punctuator, TokenKind};
+use js_text::{ReservedWord, reserved_word};
 use js_tree::Loc;
 use std::alloc::Global;
+
+/// A word that heads no statement, where one may begin: it is an operand, or nothing.
+fn begin_operand(
+    alloc: Global,
+    stack: &mut Stack,
+    class: Option<ReservedWord>,
+    word: &str,
+    kind: TokenKind<'_>,
+    loc: Loc,
+) -> Result<Turn, Refusal>
+    requires { heads_statement class ≡ false }
+    ensures { Turns result (view.frames stack.new) (machine.begin_word class word.now loc (view.frames stack.old)) (kind_of kind.entry) loc 0 }
+{
+    stack.push(Frame::InExpression)?;
+    have_word(alloc, stack, class, word, kind, loc)
+}
 
 /// A word where a statement may begin.
 fn begin_word(
     alloc: Global,
     stack: &mut Stack,
-    class: WordClass,
+    class: Option<ReservedWord>,
     word: &str,
     kind: TokenKind<'_>,
     loc: Loc,
 ) -> Result<Turn, Refusal>
-    ensures { Turns result (view.frames stack.new) (machine.begin_word (plain_class class) word.now loc (view.frames stack.old)) (kind_of kind.entry) loc 0 }
+    ensures { Turns result (view.frames stack.new) (machine.begin_word class word.now loc (view.frames stack.old)) (kind_of kind.entry) loc 0 }
 {
     match class {
-        WordClass::Var => Ok(Turn::To(Mode::WantName(
+        Some(ReservedWord::Var) => Ok(Turn::To(Mode::WantName(
             loc,
             Declared {
                 items: Items::new(alloc),
                 height: 0,
             },
         ))),
-        WordClass::If => Ok(Turn::To(Mode::WantOpen(Test::OfIf, loc))),
-        WordClass::While => Ok(Turn::To(Mode::WantOpen(Test::OfWhile, loc))),
-        class => {
-            stack.push(Frame::InExpression)?;
-            have_word(alloc, stack, class, word, kind, loc)
-        }
+        Some(ReservedWord::If) => Ok(Turn::To(Mode::WantOpen(Test::OfIf, loc))),
+        Some(ReservedWord::While) => Ok(Turn::To(Mode::WantOpen(Test::OfWhile, loc))),
+        class => begin_operand(alloc, stack, class, word, kind, loc),
     }
 }
 
@@ -88,13 +101,13 @@ fn begin_punctuator(
     kind: TokenKind<'_>,
     loc: Loc,
 ) -> Result<Turn, Refusal>
-    ensures { Turns result (view.frames stack.new) (machine.begin_punctuator (plain_punctuator punctuator) loc (view.frames stack.old)) (kind_of kind.entry) loc 0 }
+    ensures { Turns result (view.frames stack.new) (machine.begin_punctuator punctuator loc (view.frames stack.old)) (kind_of kind.entry) loc 0 }
 {
     match punctuator {
         Punctuator::OpenBrace => {
             stack.push(Frame::InBlock(
                 loc,
-                Pieces {
+                ReadStatements {
                     items: Items::new(alloc),
                     height: 0,
                     directives: true,
@@ -123,7 +136,7 @@ pub(crate) fn begin(
     ensures { Turns result (view.frames stack.new) (machine.begin (kind_of kind.entry) loc (view.frames stack.old)) (kind_of kind.entry) loc 0 }
 {
     match kind {
-        TokenKind::Word(word) => begin_word(alloc, stack, class_of(word), word, kind, loc),
+        TokenKind::Word(word) => begin_word(alloc, stack, reserved_word(word), word, kind, loc),
         TokenKind::Numeral(digits) => {
             stack.push(Frame::InExpression)?;
             Ok(Turn::To(Mode::Have(make::number(alloc, digits, loc)?)))

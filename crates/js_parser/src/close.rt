@@ -4,9 +4,9 @@ ghost use Rattle.js_parser.specs.View.{Turns};
 ghost use Rattle.js_parser.specs.View as view;
 
 use crate::frame::{Frame, Mode, Test, Turn};
-use crate::part::{Arguments, Declared, Part};
 use crate::place::through;
 use crate::prologue::{in_prologue, statement};
+use crate::read::{Arguments, Declared, ReadExpression};
 use crate::stack::Stack;
 use crate::{Refusal, make};
 use js_lexer::{Punctuator, TokenKind};
@@ -17,9 +17,9 @@ use std::alloc::Global;
 pub(crate) fn close_arguments(
     alloc: Global,
     stack: &mut Stack,
-    callee: Part,
+    callee: ReadExpression,
     arguments: Arguments,
-    part: Part,
+    part: ReadExpression,
     kind: TokenKind<'_>,
     loc: Loc,
 ) -> Result<Turn, Refusal>
@@ -42,7 +42,7 @@ pub(crate) fn close_arguments(
 pub(crate) fn close_statement(
     alloc: Global,
     stack: &mut Stack,
-    part: Part,
+    part: ReadExpression,
     kind: TokenKind<'_>,
     loc: Loc,
 ) -> Result<Turn, Refusal>
@@ -63,7 +63,7 @@ pub(crate) fn close_test(
     stack: &mut Stack,
     test: Test,
     word: Loc,
-    part: Part,
+    part: ReadExpression,
     kind: TokenKind<'_>,
     loc: Loc,
 ) -> Result<Turn, Refusal>
@@ -89,7 +89,7 @@ pub(crate) fn close_initializer(
     name: Name,
     place: Loc,
     stack: &Stack,
-    part: Part,
+    part: ReadExpression,
     kind: TokenKind<'_>,
     loc: Loc,
 ) -> Result<Turn, Refusal>
@@ -110,7 +110,7 @@ pub(crate) fn close_parentheses(
     alloc: Global,
     opening: Loc,
     stack: &Stack,
-    part: Part,
+    part: ReadExpression,
     kind: TokenKind<'_>,
     loc: Loc,
 ) -> Result<Turn, Refusal>

@@ -1,19 +1,17 @@
-ghost use Rattle.js_lexer.specs.Punctuator.{plain_punctuator};
 ghost use Rattle.js_lexer.specs.Token.{kind_of};
 ghost use Rattle.js_tree.specs.Tree.{plain_declarators};
-ghost use Rattle.js_parser.specs.Class.{plain_class};
 ghost use Rattle.js_parser.specs.Machine as machine;
 ghost use Rattle.js_parser.specs.View.{Turns};
 ghost use Rattle.js_parser.specs.View as view;
 
 use crate::after::after;
 use crate::frame::{Frame, Mode, Turn};
-use crate::part::Declared;
+use crate::read::Declared;
 use crate::stack::Stack;
-use crate::word::{WordClass, class_of};
 use crate::{Refusal, make};
 use items::Text;
 use js_lexer::{Punctuator, TokenKind};
+use js_text::{ReservedWord, reserved_word};
 use js_tree::{Loc, Name};
 use std::alloc::Global;
 
@@ -32,7 +30,7 @@ pub(crate) fn want_name(
         TokenKind::Word(name) => name_class(
             alloc,
             stack,
-            class_of(name),
+            reserved_word(name),
             word,
             declared,
             name,
@@ -47,22 +45,17 @@ pub(crate) fn want_name(
 fn name_class(
     alloc: Global,
     stack: &Stack,
-    class: WordClass,
+    class: Option<ReservedWord>,
     word: Loc,
     declared: Declared,
     name: &str,
     kind: TokenKind<'_>,
     loc: Loc,
 ) -> Result<Turn, Refusal>
-    ensures { Turns result (view.frames stack.now) (machine.name_class (plain_class class) word (plain_declarators declared.items) name.now loc (view.frames stack.now)) (kind_of kind.entry) loc 0 }
+    ensures { Turns result (view.frames stack.now) (machine.name_class class word (plain_declarators declared.items) name.now loc (view.frames stack.now)) (kind_of kind.entry) loc 0 }
 {
     match class {
-        WordClass::Name => Ok(Turn::To(Mode::HaveName(
-            word,
-            declared,
-            Text::from_str(alloc, name)?,
-            loc,
-        ))),
+        None => Ok(Turn::To(Mode::HaveName(word, declared, Text::from_str(alloc, name)?, loc))),
         _ => Err(Refusal::Syntax),
     }
 }
@@ -100,7 +93,7 @@ fn have_name_punctuator(
     kind: TokenKind<'_>,
     loc: Loc,
 ) -> Result<Turn, Refusal>
-    ensures { Turns result (view.frames stack.new) (machine.have_name word (plain_declarators declared.items) name place (plain_punctuator punctuator) loc (view.frames stack.old)) (kind_of kind.entry) loc 0 }
+    ensures { Turns result (view.frames stack.new) (machine.have_name word (plain_declarators declared.items) name place punctuator loc (view.frames stack.old)) (kind_of kind.entry) loc 0 }
 {
     match punctuator {
         Punctuator::Assign => {

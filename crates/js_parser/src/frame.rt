@@ -1,4 +1,4 @@
-use crate::part::{Arguments, Declared, Part, Piece, Pieces};
+use crate::read::{Arguments, Declared, ReadExpression, ReadStatement, ReadStatements};
 use js_tree::{BinaryOperator, Loc, Name};
 
 /// Which statement's test is read.
@@ -12,13 +12,13 @@ pub(crate) enum Test {
 #[derive(Drop)]
 pub(crate) enum Frame {
     /// The right operand is missing.
-    InBinary(BinaryOperator, Part),
+    InBinary(BinaryOperator, ReadExpression),
     /// What stands in the parentheses that open here, and their end.
     InParentheses(Loc),
     /// The next argument.
-    InCall(Part, Arguments),
+    InCall(ReadExpression, Arguments),
     /// The right side.
-    InAssignment(Part),
+    InAssignment(ReadExpression),
     /// The expression of a statement.
     InExpression,
     /// The test of the statement whose word stands here.
@@ -26,15 +26,15 @@ pub(crate) enum Frame {
     /// The value of a name, after the word `var` and the declarators before it.
     InInitializer(Loc, Declared, Name, Loc),
     /// The statement of an `if`.
-    InIf(Loc, Part),
+    InIf(Loc, ReadExpression),
     /// The statement of an `else`.
-    InElse(Loc, Part, Piece),
+    InElse(Loc, ReadExpression, ReadStatement),
     /// The body of a `while`.
-    InWhile(Loc, Part),
+    InWhile(Loc, ReadExpression),
     /// The next statement of the block that opens here.
-    InBlock(Loc, Pieces),
+    InBlock(Loc, ReadStatements),
     /// The next statement of the file.
-    InBody(Pieces),
+    InBody(ReadStatements),
 }
 
 /// What is due, or what stands there.
@@ -43,11 +43,11 @@ pub(crate) enum Mode {
     /// An operand is due.
     Want,
     /// An expression stands there.
-    Have(Part),
+    Have(ReadExpression),
     /// A statement may begin.
     Begin,
     /// A statement stands there.
-    After(Piece),
+    After(ReadStatement),
     /// The `(` of a test is due.
     WantOpen(Test, Loc),
     /// A name to be declared is due.
@@ -55,7 +55,7 @@ pub(crate) enum Mode {
     /// A name to be declared stands there.
     HaveName(Loc, Declared, Name, Loc),
     /// The file has ended.
-    Finished(Pieces),
+    Finished(ReadStatements),
 }
 
 /// How a token joins what stands to its left.

@@ -12,7 +12,7 @@ use crate::frame::{Frame, Join, Mode, Turn, discard};
 use crate::join::{join, strength, wants};
 use crate::level::{is_target, level};
 use crate::need::need;
-use crate::part::{Arguments, Part};
+use crate::read::{Arguments, ReadExpression};
 use crate::stack::Stack;
 use crate::{Refusal, make};
 use items::Items;
@@ -25,7 +25,7 @@ fn shift(
     alloc: Global,
     stack: &mut Stack,
     by: Join,
-    part: Part,
+    part: ReadExpression,
     kind: TokenKind<'_>,
     loc: Loc,
 ) -> Result<Turn, Refusal>
@@ -65,7 +65,7 @@ fn take(
     alloc: Global,
     stack: &mut Stack,
     frame: Frame,
-    part: Part,
+    part: ReadExpression,
     kind: TokenKind<'_>,
     loc: Loc,
 ) -> Result<Turn, Refusal>
@@ -100,7 +100,7 @@ fn take(
 pub(crate) fn have(
     alloc: Global,
     stack: &mut Stack,
-    part: Part,
+    part: ReadExpression,
     kind: TokenKind<'_>,
     loc: Loc,
 ) -> Result<Turn, Refusal>

@@ -1,14 +1,12 @@
 ghost use Rattle.std.specs.Prelude.{◌≡◌};
-ghost use Rattle.js_lexer.specs.Punctuator.{plain_punctuator};
 ghost use Rattle.js_lexer.specs.Token.{kind_of};
-ghost use Rattle.js_parser.specs.Class.{plain_class};
 ghost use Rattle.js_parser.specs.Machine as machine;
 ghost use Rattle.js_parser.specs.View as view;
 
 use crate::frame::Join;
 use crate::level::{ASSIGNMENT, CALLED, binary_level, left_level};
-use crate::word::{WordClass, class_of};
 use js_lexer::{Punctuator, TokenKind};
+use js_text::{ReservedWord, reserved_word};
 use js_tree::BinaryOperator;
 
 /// How a token joins what stands to its left.
@@ -22,7 +20,7 @@ pub(crate) fn join(kind: TokenKind<'_>) -> Join
 }
 
 fn join_punctuator(punctuator: Punctuator) -> Join
-    ensures { view.joining result ≡ machine.join_punctuator (plain_punctuator punctuator) }
+    ensures { view.joining result ≡ machine.join_punctuator punctuator }
 {
     match punctuator {
         Punctuator::Plus => Join::ByOperator(BinaryOperator::Add),
@@ -63,16 +61,16 @@ pub(crate) fn is_else(kind: TokenKind<'_>) -> bool
     ensures { result ≡ machine.is_else (kind_of kind.entry) }
 {
     match kind {
-        TokenKind::Word(word) => is_else_word(class_of(word)),
+        TokenKind::Word(word) => is_else_word(reserved_word(word)),
         _ => false,
     }
 }
 
-fn is_else_word(class: WordClass) -> bool
-    ensures { result ≡ machine.is_else_word (plain_class class) }
+fn is_else_word(class: Option<ReservedWord>) -> bool
+    ensures { result ≡ machine.is_else_word class }
 {
     match class {
-        WordClass::Else => true,
+        Some(ReservedWord::Else) => true,
         _ => false,
     }
 }

@@ -112,7 +112,7 @@ pub(crate) fn level(expression: &Expr) -> u8
         ExprNode::New(_, _) => 19,
         ExprNode::Call(_, _) => 19,
         ExprNode::PostfixUpdate(_, _) => 17,
-        ExprNode::PrefixUpdate(_, _) => 16,
+        ExprNode::PrefixUpdate(_, _) => 17,
         ExprNode::Unary(_, _) => 16,
         ExprNode::Binary(operator, _, _) => binary_level(*operator),
         ExprNode::Logical(operator, _, _) => logical_level(*operator),

@@ -11,16 +11,15 @@ mod join;
 mod level;
 mod make;
 mod need;
-mod part;
 mod place;
 mod prologue;
+mod read;
 mod reader;
 mod refused;
 mod stack;
 mod turn;
 mod units;
 mod want;
-mod word;
 
 pub use reader::parse;
 pub use refused::{Refusal, Refused};

@@ -6,10 +6,10 @@ ghost use Rattle.js_tree.specs.declared.operators.VariableKind.TheVariants as va
 ghost use Rattle.js_text.specs.Grammar.{spelled};
 ghost use Rattle.js_text.specs.Grammar as grammar;
 ghost use Rattle.js_parser.specs.Machine as machine;
-ghost use Rattle.js_parser.specs.Make.{Makes, MakesPiece, MakesArguments, MakesDeclared, MakesPieces};
+ghost use Rattle.js_parser.specs.Make.{Makes, MakesStatement, MakesArguments, MakesDeclared, MakesStatements};
 
-use crate::part::{Arguments, Declared, Part, Piece, Pieces};
 use crate::place::through;
+use crate::read::{Arguments, Declared, ReadExpression, ReadStatement, ReadStatements};
 use crate::units::units_of;
 use items::{Boxed, Memory, Text};
 use js_tree::{
@@ -27,7 +27,7 @@ pub(crate) fn above(part: u64) -> Result<u64, Memory>
 
 /// A name as an expression.
 #[tactic(auto, using(js_tree::proofs::Equations::tree_rules))]
-pub(crate) fn reference(alloc: Global, word: &str, loc: Loc) -> Result<Part, Memory>
+pub(crate) fn reference(alloc: Global, word: &str, loc: Loc) -> Result<ReadExpression, Memory>
     ensures { Makes result (P.IdentifierReference (Some loc) word.now) loc }
 {
     let name = Text::from_str(alloc, word)?;
@@ -35,7 +35,7 @@ pub(crate) fn reference(alloc: Global, word: &str, loc: Loc) -> Result<Part, Mem
         loc: Some(loc),
         node: ExprNode::IdentifierReference(name),
     };
-    Ok(Part {
+    Ok(ReadExpression {
         tree: Boxed::new(alloc, tree)?,
         loc,
         height: 1,
@@ -44,14 +44,14 @@ pub(crate) fn reference(alloc: Global, word: &str, loc: Loc) -> Result<Part, Mem
 
 /// `null`.
 #[tactic(auto, using(js_tree::proofs::Equations::tree_rules))]
-pub(crate) fn null(alloc: Global, loc: Loc) -> Result<Part, Memory>
+pub(crate) fn null(alloc: Global, loc: Loc) -> Result<ReadExpression, Memory>
     ensures { Makes result (P.NullLiteral (Some loc)) loc }
 {
     let tree = Expr {
         loc: Some(loc),
         node: ExprNode::NullLiteral,
     };
-    Ok(Part {
+    Ok(ReadExpression {
         tree: Boxed::new(alloc, tree)?,
         loc,
         height: 1,
@@ -60,14 +60,14 @@ pub(crate) fn null(alloc: Global, loc: Loc) -> Result<Part, Memory>
 
 /// `true` or `false`.
 #[tactic(auto, using(js_tree::proofs::Equations::tree_rules))]
-pub(crate) fn boolean(alloc: Global, value: bool, loc: Loc) -> Result<Part, Memory>
+pub(crate) fn boolean(alloc: Global, value: bool, loc: Loc) -> Result<ReadExpression, Memory>
     ensures { Makes result (P.BooleanLiteral (Some loc) value) loc }
 {
     let tree = Expr {
         loc: Some(loc),
         node: ExprNode::BooleanLiteral(value),
     };
-    Ok(Part {
+    Ok(ReadExpression {
         tree: Boxed::new(alloc, tree)?,
         loc,
         height: 1,
@@ -76,7 +76,7 @@ pub(crate) fn boolean(alloc: Global, value: bool, loc: Loc) -> Result<Part, Memo
 
 /// A number.
 #[tactic(auto, using(js_tree::proofs::Equations::tree_rules))]
-pub(crate) fn number(alloc: Global, digits: &str, loc: Loc) -> Result<Part, Memory>
+pub(crate) fn number(alloc: Global, digits: &str, loc: Loc) -> Result<ReadExpression, Memory>
     ensures { Makes result (P.NumericLiteral (Some loc) digits.now) loc }
 {
     let digits = Text::from_str(alloc, digits)?;
@@ -84,7 +84,7 @@ pub(crate) fn number(alloc: Global, digits: &str, loc: Loc) -> Result<Part, Memo
         loc: Some(loc),
         node: ExprNode::NumericLiteral(digits),
     };
-    Ok(Part {
+    Ok(ReadExpression {
         tree: Boxed::new(alloc, tree)?,
         loc,
         height: 1,
@@ -93,7 +93,7 @@ pub(crate) fn number(alloc: Global, digits: &str, loc: Loc) -> Result<Part, Memo
 
 /// A string.
 #[tactic(auto, using(js_tree::proofs::Equations::tree_rules))]
-pub(crate) fn string(alloc: Global, spelling: &str, loc: Loc) -> Result<Part, Memory>
+pub(crate) fn string(alloc: Global, spelling: &str, loc: Loc) -> Result<ReadExpression, Memory>
     ensures { Makes result (P.StringLiteral (Some loc) (spelled spelling.now)) loc }
 {
     let string = Spelled {
@@ -104,7 +104,7 @@ pub(crate) fn string(alloc: Global, spelling: &str, loc: Loc) -> Result<Part, Me
         loc: Some(loc),
         node: ExprNode::StringLiteral(string),
     };
-    Ok(Part {
+    Ok(ReadExpression {
         tree: Boxed::new(alloc, tree)?,
         loc,
         height: 1,
@@ -116,9 +116,9 @@ pub(crate) fn string(alloc: Global, spelling: &str, loc: Loc) -> Result<Part, Me
 pub(crate) fn parentheses(
     alloc: Global,
     opening: Loc,
-    inner: Part,
+    inner: ReadExpression,
     closing: Loc,
-) -> Result<Part, Memory>
+) -> Result<ReadExpression, Memory>
     ensures { Makes result (P.Parenthesized (Some (grammar.through opening closing)) (plain_expr inner.tree)) (grammar.through opening closing) }
 {
     let loc = through(opening, closing);
@@ -128,17 +128,17 @@ pub(crate) fn parentheses(
         node: ExprNode::Parenthesized(inner.tree),
     };
     let tree = Boxed::new(alloc, tree)?;
-    Ok(Part { tree, loc, height })
+    Ok(ReadExpression { tree, loc, height })
 }
 
 /// A call, up to its closing parenthesis.
 #[tactic(auto, using(js_tree::proofs::Equations::tree_rules))]
 pub(crate) fn call(
     alloc: Global,
-    callee: Part,
+    callee: ReadExpression,
     arguments: Arguments,
     closing: Loc,
-) -> Result<Part, Memory>
+) -> Result<ReadExpression, Memory>
     ensures { Makes result (P.Call (Some (grammar.through callee.loc closing)) (plain_expr callee.tree) (plain_exprs arguments.items)) (grammar.through callee.loc closing) }
 {
     let loc = through(callee.loc, closing);
@@ -148,7 +148,7 @@ pub(crate) fn call(
         node: ExprNode::Call(callee.tree, arguments.items),
     };
     let tree = Boxed::new(alloc, tree)?;
-    Ok(Part { tree, loc, height })
+    Ok(ReadExpression { tree, loc, height })
 }
 
 /// A binary operator's expression.
@@ -156,9 +156,9 @@ pub(crate) fn call(
 pub(crate) fn binary(
     alloc: Global,
     operator: BinaryOperator,
-    left: Part,
-    right: Part,
-) -> Result<Part, Memory>
+    left: ReadExpression,
+    right: ReadExpression,
+) -> Result<ReadExpression, Memory>
     ensures { Makes result (P.Binary (Some (grammar.through left.loc right.loc)) operator (plain_expr left.tree) (plain_expr right.tree)) (grammar.through left.loc right.loc) }
 {
     let loc = through(left.loc, right.loc);
@@ -170,12 +170,16 @@ pub(crate) fn binary(
         node: ExprNode::Binary(operator, left, right),
     };
     let tree = Boxed::new(alloc, tree)?;
-    Ok(Part { tree, loc, height })
+    Ok(ReadExpression { tree, loc, height })
 }
 
 /// An assignment by `=`.
 #[tactic(auto, using(js_tree::proofs::Equations::tree_rules))]
-pub(crate) fn assignment(alloc: Global, target: Part, value: Part) -> Result<Part, Memory>
+pub(crate) fn assignment(
+    alloc: Global,
+    target: ReadExpression,
+    value: ReadExpression,
+) -> Result<ReadExpression, Memory>
     ensures { Makes result (P.Assignment (Some (grammar.through target.loc value.loc)) assign.Assign (plain_expr target.tree) (plain_expr value.tree)) (grammar.through target.loc value.loc) }
 {
     let loc = through(target.loc, value.loc);
@@ -187,12 +191,12 @@ pub(crate) fn assignment(alloc: Global, target: Part, value: Part) -> Result<Par
         node: ExprNode::Assignment(AssignmentOperator::Assign, target, value),
     };
     let tree = Boxed::new(alloc, tree)?;
-    Ok(Part { tree, loc, height })
+    Ok(ReadExpression { tree, loc, height })
 }
 
 /// One more argument.
 #[tactic(auto, using(js_tree::proofs::Equations::tree_rules, crate::proofs::Floor::max_push_exprs))]
-pub(crate) fn longer(arguments: Arguments, argument: Part) -> Result<Arguments, Memory>
+pub(crate) fn longer(arguments: Arguments, argument: ReadExpression) -> Result<Arguments, Memory>
     ensures { MakesArguments result (P.push_exprs (plain_exprs arguments.items) (plain_expr argument.tree)) }
 {
     let height = arguments.height.max(argument.height);
@@ -203,14 +207,14 @@ pub(crate) fn longer(arguments: Arguments, argument: Part) -> Result<Arguments, 
 
 /// A `;` alone.
 #[tactic(auto, using(js_tree::proofs::Equations::tree_rules))]
-pub(crate) fn empty(alloc: Global, loc: Loc) -> Result<Piece, Memory>
-    ensures { MakesPiece result (P.Empty (Some loc)) loc }
+pub(crate) fn empty(alloc: Global, loc: Loc) -> Result<ReadStatement, Memory>
+    ensures { MakesStatement result (P.Empty (Some loc)) loc }
 {
     let tree = Stmt {
         loc: Some(loc),
         node: StmtNode::Empty,
     };
-    Ok(Piece {
+    Ok(ReadStatement {
         tree: Boxed::new(alloc, tree)?,
         loc,
         height: 1,
@@ -222,10 +226,10 @@ pub(crate) fn empty(alloc: Global, loc: Loc) -> Result<Piece, Memory>
 pub(crate) fn block(
     alloc: Global,
     opening: Loc,
-    statements: Pieces,
+    statements: ReadStatements,
     closing: Loc,
-) -> Result<Piece, Memory>
-    ensures { MakesPiece result (P.Block (Some (grammar.through opening closing)) (plain_stmts statements.items)) (grammar.through opening closing) }
+) -> Result<ReadStatement, Memory>
+    ensures { MakesStatement result (P.Block (Some (grammar.through opening closing)) (plain_stmts statements.items)) (grammar.through opening closing) }
 {
     let loc = through(opening, closing);
     let height = above(statements.height)?;
@@ -234,7 +238,7 @@ pub(crate) fn block(
         node: StmtNode::Block(statements.items),
     };
     let tree = Boxed::new(alloc, tree)?;
-    Ok(Piece { tree, loc, height })
+    Ok(ReadStatement { tree, loc, height })
 }
 
 /// A declaration by `var`, from the word up to its `;`.
@@ -244,8 +248,8 @@ pub(crate) fn variables(
     word: Loc,
     declared: Declared,
     closing: Loc,
-) -> Result<Piece, Memory>
-    ensures { MakesPiece result (P.VariableDeclaration (Some (grammar.through word closing)) variable.Var (plain_declarators declared.items)) (grammar.through word closing) }
+) -> Result<ReadStatement, Memory>
+    ensures { MakesStatement result (P.VariableDeclaration (Some (grammar.through word closing)) variable.Var (plain_declarators declared.items)) (grammar.through word closing) }
 {
     let loc = through(word, closing);
     let height = above(declared.height)?;
@@ -254,13 +258,17 @@ pub(crate) fn variables(
         node: StmtNode::VariableDeclaration(VariableKind::Var, declared.items),
     };
     let tree = Boxed::new(alloc, tree)?;
-    Ok(Piece { tree, loc, height })
+    Ok(ReadStatement { tree, loc, height })
 }
 
 /// An expression statement, from the expression up to its `;`.
 #[tactic(auto, using(js_tree::proofs::Equations::tree_rules))]
-pub(crate) fn expression(alloc: Global, inner: Part, loc: Loc) -> Result<Piece, Memory>
-    ensures { MakesPiece result (P.Expression (Some loc) (plain_expr inner.tree)) loc }
+pub(crate) fn expression(
+    alloc: Global,
+    inner: ReadExpression,
+    loc: Loc,
+) -> Result<ReadStatement, Memory>
+    ensures { MakesStatement result (P.Expression (Some loc) (plain_expr inner.tree)) loc }
 {
     let height = above(inner.height)?;
     let tree = Stmt {
@@ -268,13 +276,18 @@ pub(crate) fn expression(alloc: Global, inner: Part, loc: Loc) -> Result<Piece, 
         node: StmtNode::Expression(inner.tree),
     };
     let tree = Boxed::new(alloc, tree)?;
-    Ok(Piece { tree, loc, height })
+    Ok(ReadStatement { tree, loc, height })
 }
 
 /// `while`, from the word up to its body.
 #[tactic(auto, using(js_tree::proofs::Equations::tree_rules))]
-pub(crate) fn while_loop(alloc: Global, word: Loc, test: Part, body: Piece) -> Result<Piece, Memory>
-    ensures { MakesPiece result (P.While (Some (grammar.through word body.loc)) (plain_expr test.tree) (plain_stmt body.tree)) (grammar.through word body.loc) }
+pub(crate) fn while_loop(
+    alloc: Global,
+    word: Loc,
+    test: ReadExpression,
+    body: ReadStatement,
+) -> Result<ReadStatement, Memory>
+    ensures { MakesStatement result (P.While (Some (grammar.through word body.loc)) (plain_expr test.tree) (plain_stmt body.tree)) (grammar.through word body.loc) }
 {
     let loc = through(word, body.loc);
     let height = above(test.height.max(body.height))?;
@@ -285,13 +298,18 @@ pub(crate) fn while_loop(alloc: Global, word: Loc, test: Part, body: Piece) -> R
         node: StmtNode::While(test, body),
     };
     let tree = Boxed::new(alloc, tree)?;
-    Ok(Piece { tree, loc, height })
+    Ok(ReadStatement { tree, loc, height })
 }
 
 /// `if` without `else`, from the word up to its statement.
 #[tactic(auto, using(crate::proofs::IfNodes::if_only_made))]
-pub(crate) fn if_only(alloc: Global, word: Loc, test: Part, then: Piece) -> Result<Piece, Memory>
-    ensures { MakesPiece result (P.If (Some (grammar.through word then.loc)) (plain_expr test.tree) (plain_stmt then.tree) P.none_stmt) (grammar.through word then.loc) }
+pub(crate) fn if_only(
+    alloc: Global,
+    word: Loc,
+    test: ReadExpression,
+    then: ReadStatement,
+) -> Result<ReadStatement, Memory>
+    ensures { MakesStatement result (P.If (Some (grammar.through word then.loc)) (plain_expr test.tree) (plain_stmt then.tree) P.none_stmt) (grammar.through word then.loc) }
 {
     let loc = through(word, then.loc);
     let height = above(test.height.max(then.height))?;
@@ -302,7 +320,7 @@ pub(crate) fn if_only(alloc: Global, word: Loc, test: Part, then: Piece) -> Resu
         node: StmtNode::If(test, then, None),
     };
     let tree = Boxed::new(alloc, tree)?;
-    Ok(Piece { tree, loc, height })
+    Ok(ReadStatement { tree, loc, height })
 }
 
 /// `if` with `else`, from the word up to the statement of `else`.
@@ -310,11 +328,11 @@ pub(crate) fn if_only(alloc: Global, word: Loc, test: Part, then: Piece) -> Resu
 pub(crate) fn if_else(
     alloc: Global,
     word: Loc,
-    test: Part,
-    then: Piece,
-    other: Piece,
-) -> Result<Piece, Memory>
-    ensures { MakesPiece result (P.If (Some (grammar.through word other.loc)) (plain_expr test.tree) (plain_stmt then.tree) (P.some_stmt (plain_stmt other.tree))) (grammar.through word other.loc) }
+    test: ReadExpression,
+    then: ReadStatement,
+    other: ReadStatement,
+) -> Result<ReadStatement, Memory>
+    ensures { MakesStatement result (P.If (Some (grammar.through word other.loc)) (plain_expr test.tree) (plain_stmt then.tree) (P.some_stmt (plain_stmt other.tree))) (grammar.through word other.loc) }
 {
     let loc = through(word, other.loc);
     let height = above(test.height.max(then.height.max(other.height)))?;
@@ -326,19 +344,19 @@ pub(crate) fn if_else(
         node: StmtNode::If(test, then, Some(other)),
     };
     let tree = Boxed::new(alloc, tree)?;
-    Ok(Piece { tree, loc, height })
+    Ok(ReadStatement { tree, loc, height })
 }
 
 /// A directive: a string, up to its `;`.
 #[tactic(auto, using(js_tree::proofs::Equations::tree_rules))]
-pub(crate) fn directive(alloc: Global, string: Spelled, loc: Loc) -> Result<Piece, Memory>
-    ensures { MakesPiece result (P.Directive (Some loc) string) loc }
+pub(crate) fn directive(alloc: Global, string: Spelled, loc: Loc) -> Result<ReadStatement, Memory>
+    ensures { MakesStatement result (P.Directive (Some loc) string) loc }
 {
     let tree = Stmt {
         loc: Some(loc),
         node: StmtNode::Directive(string),
     };
-    Ok(Piece {
+    Ok(ReadStatement {
         tree: Boxed::new(alloc, tree)?,
         loc,
         height: 2,
@@ -347,14 +365,17 @@ pub(crate) fn directive(alloc: Global, string: Spelled, loc: Loc) -> Result<Piec
 
 /// One more statement.
 #[tactic(auto, using(js_tree::proofs::Equations::tree_rules, crate::proofs::Floor::max_push_stmts, crate::proofs::Directives::directives_push))]
-pub(crate) fn longer_body(statements: Pieces, statement: Piece) -> Result<Pieces, Memory>
-    ensures { MakesPieces result (P.push_stmts (plain_stmts statements.items) (plain_stmt statement.tree)) }
+pub(crate) fn longer_body(
+    statements: ReadStatements,
+    statement: ReadStatement,
+) -> Result<ReadStatements, Memory>
+    ensures { MakesStatements result (P.push_stmts (plain_stmts statements.items) (plain_stmt statement.tree)) }
 {
     let height = statements.height.max(statement.height);
     let directives = statements.directives && is_directive(statement.tree.get());
     let mut items = statements.items;
     items.push(statement.tree.into_inner())?;
-    Ok(Pieces {
+    Ok(ReadStatements {
         items,
         height,
         directives,
@@ -397,7 +418,7 @@ pub(crate) fn longer_initialized(
     declared: Declared,
     name: Name,
     place: Loc,
-    value: Part,
+    value: ReadExpression,
 ) -> Result<Declared, Memory>
     ensures { MakesDeclared result (P.push_declarators (plain_declarators declared.items) (machine.declarator_of name place (plain_expr value.tree) value.loc)) }
 {

@@ -2,12 +2,12 @@ ghost use Rattle.std.specs.Prelude.{◌≡◌, false, IfOk, IfErr, OnOk, OnErr};
 ghost use Rattle.js_tree.specs.Plain as P;
 ghost use Rattle.js_tree.specs.Tree.{plain_expr};
 ghost use Rattle.js_parser.specs.Machine as machine;
-ghost use Rattle.js_parser.specs.Make.{MakesPiece};
+ghost use Rattle.js_parser.specs.Make.{MakesStatement};
 ghost use Rattle.js_parser.specs.View as view;
 
 use crate::frame::Frame;
 use crate::make;
-use crate::part::{Part, Piece};
+use crate::read::{ReadExpression, ReadStatement};
 use crate::stack::Stack;
 use items::{Boxed, Memory};
 use js_tree::{Expr, ExprNode, Loc, Spelled};
@@ -51,15 +51,15 @@ fn into_string(expression: Boxed<Expr>) -> Result<Spelled, Expr>
 pub(crate) fn statement(
     alloc: Global,
     prologue: bool,
-    part: Part,
+    part: ReadExpression,
     loc: Loc,
-) -> Result<Piece, Memory>
-    ensures { MakesPiece result (machine.statement_of prologue (plain_expr part.tree) loc) loc }
+) -> Result<ReadStatement, Memory>
+    ensures { MakesStatement result (machine.statement_of prologue (plain_expr part.tree) loc) loc }
 {
     if !prologue {
         return make::expression(alloc, part, loc);
     }
-    let Part {
+    let ReadExpression {
         tree,
         loc: place,
         height,
@@ -67,7 +67,7 @@ pub(crate) fn statement(
     match into_string(tree) {
         Ok(string) => make::directive(alloc, string, loc),
         Err(tree) => {
-            let part = Part {
+            let part = ReadExpression {
                 tree: Boxed::new(alloc, tree)?,
                 loc: place,
                 height,

@@ -2,7 +2,7 @@ ghost use Rattle.std.specs.Prelude.{◌≡◌, ◌≤◌, IfOk, IfErr};
 ghost use Rattle.js_tree.specs.Height.{height_file};
 ghost use Rattle.js_tree.specs.Plain as P;
 ghost use Rattle.js_text.specs.Lex.{token_place, offset_of};
-ghost use Rattle.js_text.specs.Token.{Div};
+ghost use Rattle.js_text.specs.declared.goal.Goal.TheVariants.{Div};
 ghost use Rattle.js_tree.specs.Tree.{plain_file};
 ghost use Rattle.js_lexer.specs.Token.{plain_token};
 ghost use Rattle.js_text.specs.Reads.{Reads};
@@ -12,7 +12,7 @@ ghost use Rattle.js_parser.specs.Machine as machine;
 ghost use Rattle.js_parser.specs.View as view;
 
 use crate::frame::{Frame, Mode};
-use crate::part::Pieces;
+use crate::read::ReadStatements;
 use crate::stack::Stack;
 use crate::turn::step;
 use crate::{Refusal, Refused};
@@ -25,7 +25,7 @@ use std::alloc::{AllocError, Global};
 /// Where a token has led: to the end of the file, or on.
 #[derive(Drop)]
 enum Progress {
-    Ended(Pieces),
+    Ended(ReadStatements),
     On(Mode),
 }
 
@@ -120,7 +120,7 @@ fn first_place(lexer: &mut Lexer<'_>) -> usize
 fn opened(alloc: Global) -> Result<Stack, Memory>
     ensures { IfOk result (λ stack. machine.at machine.Begin (view.frames stack) ≡ machine.start) }
 {
-    let body = Pieces {
+    let body = ReadStatements {
         items: Items::new(alloc),
         height: 0,
         directives: true,

@@ -1,30 +1,33 @@
 ghost use Rattle.std.specs.Prelude.{IfOk};
-ghost use Rattle.js_lexer.specs.Punctuator.{plain_punctuator};
 ghost use Rattle.js_lexer.specs.Token.{kind_of};
-ghost use Rattle.js_parser.specs.Class.{plain_class};
 ghost use Rattle.js_parser.specs.Machine as machine;
 ghost use Rattle.js_parser.specs.View.{Turns, IsOperand};
 ghost use Rattle.js_parser.specs.View as view;
 
 use crate::frame::{Frame, Mode, Turn, discard};
-use crate::part::Part;
+use crate::read::ReadExpression;
 use crate::stack::Stack;
-use crate::word::{WordClass, class_of};
 use crate::{Refusal, make};
 use items::Memory;
 use js_lexer::{Punctuator, TokenKind};
+use js_text::{ReservedWord, reserved_word};
 use js_tree::Loc;
 use std::alloc::Global;
 
 /// The operand that a word is, if it is one.
-fn operand(alloc: Global, class: WordClass, word: &str, loc: Loc) -> Result<Option<Part>, Memory>
-    ensures { IfOk result (λ found. IsOperand found (machine.word_operand (plain_class class) word.now loc) loc) }
+fn operand(
+    alloc: Global,
+    class: Option<ReservedWord>,
+    word: &str,
+    loc: Loc,
+) -> Result<Option<ReadExpression>, Memory>
+    ensures { IfOk result (λ found. IsOperand found (machine.word_operand class word.now loc) loc) }
 {
     match class {
-        WordClass::Null => Ok(Some(make::null(alloc, loc)?)),
-        WordClass::True => Ok(Some(make::boolean(alloc, true, loc)?)),
-        WordClass::False => Ok(Some(make::boolean(alloc, false, loc)?)),
-        WordClass::Name => Ok(Some(make::reference(alloc, word, loc)?)),
+        Some(ReservedWord::Null) => Ok(Some(make::null(alloc, loc)?)),
+        Some(ReservedWord::True) => Ok(Some(make::boolean(alloc, true, loc)?)),
+        Some(ReservedWord::False) => Ok(Some(make::boolean(alloc, false, loc)?)),
+        None => Ok(Some(make::reference(alloc, word, loc)?)),
         _ => Ok(None),
     }
 }
@@ -33,12 +36,12 @@ fn operand(alloc: Global, class: WordClass, word: &str, loc: Loc) -> Result<Opti
 pub(crate) fn have_word(
     alloc: Global,
     stack: &Stack,
-    class: WordClass,
+    class: Option<ReservedWord>,
     word: &str,
     kind: TokenKind<'_>,
     loc: Loc,
 ) -> Result<Turn, Refusal>
-    ensures { Turns result (view.frames stack.now) (machine.have_if (machine.word_operand (plain_class class) word.now loc) loc (view.frames stack.now)) (kind_of kind.entry) loc 0 }
+    ensures { Turns result (view.frames stack.now) (machine.have_if (machine.word_operand class word.now loc) loc (view.frames stack.now)) (kind_of kind.entry) loc 0 }
 {
     match operand(alloc, class, word, loc)? {
         Some(part) => Ok(Turn::To(Mode::Have(part))),
@@ -75,7 +78,7 @@ fn want_punctuator(
     kind: TokenKind<'_>,
     loc: Loc,
 ) -> Result<Turn, Refusal>
-    ensures { Turns result (view.frames stack.new) (machine.want_punctuator (plain_punctuator punctuator) loc (view.frames stack.old)) (kind_of kind.entry) loc 0 }
+    ensures { Turns result (view.frames stack.new) (machine.want_punctuator punctuator loc (view.frames stack.old)) (kind_of kind.entry) loc 0 }
 {
     match punctuator {
         Punctuator::OpenParenthesis => {
@@ -97,7 +100,7 @@ pub(crate) fn want(
     ensures { Turns result (view.frames stack.new) (machine.want (kind_of kind.entry) loc (view.frames stack.old)) (kind_of kind.entry) loc 0 }
 {
     match kind {
-        TokenKind::Word(word) => have_word(alloc, stack, class_of(word), word, kind, loc),
+        TokenKind::Word(word) => have_word(alloc, stack, reserved_word(word), word, kind, loc),
         TokenKind::Numeral(digits) => Ok(Turn::To(Mode::Have(make::number(alloc, digits, loc)?))),
         TokenKind::StringLiteral(spelling) => Ok(Turn::To(Mode::Have(make::string(
             alloc, spelling, loc,

@@ -1,14 +1,15 @@
 -- Which tokens begin more levels than a limit: they have a reading, with what follows left open, in which that many nodes
 -- stand, each a part of the one before and each with its first token among them; a node that begins with an operand, a
 -- target or a callee has the token after that part among them too.
-use Rattle.std.specs.Prelude.{◌≡◌, ℕ, ◌+◌, ◌≤◌, ◌<◌, max, true, false, List, [], ◌∷◌, ◌++◌, codes}
+use Rattle.std.specs.Prelude.{◌≡◌, ℕ, ◌+◌, ◌≤◌, ◌<◌, max, true, List, [], ◌∷◌, ◌++◌, codes, None}
 use Rattle.js_tree.specs.declared.place.Loc.{Loc}
 use Rattle.js_tree.specs.declared.operators.BinaryOperator.{BinaryOperator}
 use Rattle.js_tree.specs.Plain.{Expr, Exprs, no_expr, push_exprs, Stmt, Stmts, Declarators, no_declarator, push_declarators}
 use Rattle.js_tree.specs.Height.{height_expr, height_exprs, height_stmt, height_stmts, height_declarators}
 use Rattle.js_text.specs.Token.{Token}
-use Rattle.js_text.specs.Punctuator as P
-use Rattle.js_text.specs.Keyword.{is_keyword}
+use Rattle.js_text.specs.declared.punctuator.Punctuator.{Punctuator}
+use Rattle.js_text.specs.declared.punctuator.Punctuator.TheVariants as P
+use Rattle.js_text.specs.Word.{reserved_word}
 use Rattle.js_text.specs.Grammar.{Is, IsWord, Sign, is_target, SpellsExpr, SpellsDeclarator, SpellsStmt, SpellsStmts, SpellsBody}
 use Rattle.js_text.specs.Level.{level, binary_level, left_level, right_level, assignment, any, called}
 
@@ -38,7 +39,7 @@ pub data BeginsExpr : ℕ → ℕ → List Token → Type 0 where
       Is opening P.OpenParenthesis → called ≤ level f → SpellsExpr f l tf →
       SpellsItems xs tx → assignment ≤ k → BeginsExpr k n ts →
       BeginsExpr called (max (height_expr f) (max (height_exprs xs) n) + 1) (tf ++ opening ∷ (tx ++ ts))
-  begins_operation : {o : BinaryOperator} {p : P.Punctuator} {a : Expr} {l : Loc} {ta ts : List Token} {n k : ℕ} (sign : Token) → Sign o p → Is sign p → left_level o ≤ level a →
+  begins_operation : {o : BinaryOperator} {p : Punctuator} {a : Expr} {l : Loc} {ta ts : List Token} {n k : ℕ} (sign : Token) → Sign o p → Is sign p → left_level o ≤ level a →
       SpellsExpr a l ta → right_level o ≤ k → BeginsExpr k n ts →
       BeginsExpr (binary_level o) (max (height_expr a) n + 1) (ta ++ sign ∷ ts)
   begins_assignment : {x : Expr} {l : Loc} {tx ts : List Token} {n k : ℕ} (sign : Token) → Is sign P.Assign →
@@ -57,13 +58,13 @@ mutual
     begins_var : {ds : Declarators} {td : List Token} (word : Token) → IsWord word (codes "var") →
         SpellsDeclared ds td → BeginsStmt (height_declarators ds + 1) (word ∷ td)
     begins_name : {ds : Declarators} {td : List Token} {name : List ℕ} (word t : Token) → IsWord word (codes "var") →
-        SpellsDeclared ds td → IsWord t name → is_keyword name ≡ false →
+        SpellsDeclared ds td → IsWord t name → reserved_word name ≡ None →
         BeginsStmt (max (height_declarators ds) 2 + 1) (word ∷ (td ++ t ∷ []))
     begins_initializer : {ds : Declarators} {td ts : List Token} {name : List ℕ} {n k : ℕ} (word t sign : Token) →
-        IsWord word (codes "var") → SpellsDeclared ds td → IsWord t name → is_keyword name ≡ false →
+        IsWord word (codes "var") → SpellsDeclared ds td → IsWord t name → reserved_word name ≡ None →
         Is sign P.Assign → assignment ≤ k → BeginsExpr k n ts →
         BeginsStmt (max (height_declarators ds) (max 1 n + 1) + 1) (word ∷ (td ++ t ∷ sign ∷ ts))
-    begins_expression : {n k : ℕ} {ts : List Token} → any ≤ k → BeginsExpr k n ts → BeginsStmt (n + 1) ts
+    begins_expression : {n k : ℕ} {t : Token} {ts : List Token} → any ≤ k → BeginsExpr k n (t ∷ ts) → BeginsStmt (n + 1) (t ∷ ts)
     begins_if : (word : Token) → IsWord word (codes "if") → BeginsStmt 1 (word ∷ [])
     begins_if_test : {n k : ℕ} {ts : List Token} (word opening : Token) → IsWord word (codes "if") →
         Is opening P.OpenParenthesis → any ≤ k → BeginsExpr k n ts → BeginsStmt (n + 1) (word ∷ opening ∷ ts)

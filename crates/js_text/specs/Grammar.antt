@@ -1,6 +1,6 @@
 -- Which tokens spell which tree (ECMA-262, 13 to 16), a constructor a production, for a small language. An expression
 -- and a statement have the location from their first token to their last; the `;` of a statement is its last.
-use Rattle.std.specs.Prelude.{◌≡◌, ℕ, ◌≤◌, Bool, true, false, List, [], ◌∷◌, ◌++◌, Some, codes}
+use Rattle.std.specs.Prelude.{◌≡◌, ℕ, ◌≤◌, Bool, true, false, List, [], ◌∷◌, ◌++◌, Some, codes, None}
 use Rattle.js_tree.specs.declared.place.Loc.{Loc}
 use Rattle.js_tree.specs.declared.words.Spelled.{Spelled}
 use Rattle.js_tree.specs.declared.operators.AssignmentOperator.TheVariants as assign
@@ -10,8 +10,9 @@ use Rattle.js_tree.specs.declared.operators.VariableKind.TheVariants as variable
 use Rattle.js_tree.specs.Plain.{Expr, Exprs, IdentifierReference, NullLiteral, BooleanLiteral, NumericLiteral, StringLiteral, Parenthesized, Call, Binary, Assignment, no_expr, more_expr, Stmt, Stmts, Directive, Block, VariableDeclaration, Empty, Expression, If, While, no_stmt, more_stmt, none_stmt, some_stmt, none_expr, some_expr, Declarator, MakeDeclarator, Declarators, no_declarator, more_declarator, BindingIdentifier, File, MakeFile}
 use Rattle.js_text.specs.Token.{Token, Kind, Word, Numeral, End}
 use Rattle.js_text.specs.Token as T
-use Rattle.js_text.specs.Punctuator as P
-use Rattle.js_text.specs.Keyword.{is_keyword}
+use Rattle.js_text.specs.declared.punctuator.Punctuator.{Punctuator}
+use Rattle.js_text.specs.declared.punctuator.Punctuator.TheVariants as P
+use Rattle.js_text.specs.Word.{reserved_word}
 use Rattle.js_text.specs.Units.{units_of}
 use Rattle.js_text.specs.Level.{level, left_level, right_level, assignment, called}
 
@@ -20,7 +21,7 @@ abbrev pub through : Loc → Loc → Loc
 through first last = record { start = first.start; end = last.end }
 
 -- the token is this punctuator, or this word
-abbrev pub Is : Token → P.Punctuator → Type 0
+abbrev pub Is : Token → Punctuator → Type 0
 Is t p = t.kind ≡ T.Punctuator p
 
 abbrev pub IsWord : Token → List ℕ → Type 0
@@ -31,7 +32,7 @@ abbrev pub spelled : List ℕ → Spelled
 spelled bytes = record { spelling = bytes; units = units_of bytes }
 
 -- the punctuator of a binary operator, of those that are read
-pub data Sign : BinaryOperator → P.Punctuator → Type 0 where
+pub data Sign : BinaryOperator → Punctuator → Type 0 where
   plus : Sign binary.Add P.Plus
   minus : Sign binary.Subtract P.Minus
   less : Sign binary.LessThan P.LessThan
@@ -45,7 +46,7 @@ mutual
   -- an expression, its location and its tokens
   pub data SpellsExpr : Expr → Loc → List Token → Type 0 where
     -- 13.1
-    reference : {t : Token} {word : List ℕ} → IsWord t word → is_keyword word ≡ false →
+    reference : {t : Token} {word : List ℕ} → IsWord t word → reserved_word word ≡ None →
         SpellsExpr (IdentifierReference (Some t.loc) word) t.loc (t ∷ [])
     -- 13.2.3
     null_literal : {t : Token} → IsWord t (codes "null") → SpellsExpr (NullLiteral (Some t.loc)) t.loc (t ∷ [])
@@ -67,7 +68,7 @@ mutual
         called ≤ level f → SpellsExpr f l tf → SpellsArguments xs ts →
         SpellsExpr (Call (Some (through l closing.loc)) f xs) (through l closing.loc) (tf ++ opening ∷ (ts ++ closing ∷ []))
     -- 13.6 to 13.12
-    operation : {o : BinaryOperator} {p : P.Punctuator} {a b : Expr} {la lb : Loc} {ta tb : List Token} (sign : Token) → Sign o p → Is sign p →
+    operation : {o : BinaryOperator} {p : Punctuator} {a b : Expr} {la lb : Loc} {ta tb : List Token} (sign : Token) → Sign o p → Is sign p →
         left_level o ≤ level a → right_level o ≤ level b → SpellsExpr a la ta → SpellsExpr b lb tb →
         SpellsExpr (Binary (Some (through la lb)) o a b) (through la lb) (ta ++ sign ∷ tb)
     -- 13.15
@@ -87,10 +88,10 @@ mutual
 
 -- a variable that is declared (14.3.2): a name, and perhaps its initializer
 pub data SpellsDeclarator : Declarator → List Token → Type 0 where
-  plain : {t : Token} {word : List ℕ} → IsWord t word → is_keyword word ≡ false →
+  plain : {t : Token} {word : List ℕ} → IsWord t word → reserved_word word ≡ None →
       SpellsDeclarator (MakeDeclarator (Some t.loc) (BindingIdentifier (Some t.loc) word) none_expr) (t ∷ [])
   initialized : {t : Token} {word : List ℕ} {e : Expr} {l : Loc} {te : List Token} (sign : Token) → IsWord t word →
-      is_keyword word ≡ false → Is sign P.Assign →
+      reserved_word word ≡ None → Is sign P.Assign →
       assignment ≤ level e → SpellsExpr e l te →
       SpellsDeclarator (MakeDeclarator (Some (through t.loc l)) (BindingIdentifier (Some t.loc) word) (some_expr e)) (t ∷ sign ∷ te)
 

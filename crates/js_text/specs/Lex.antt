@@ -6,8 +6,11 @@ use Rattle.std.specs.Option.{option_map}
 use Rattle.js_text.specs.Place.{Place, place_at}
 use Rattle.js_text.specs.Position.{is_line_terminator, position_of}
 use Rattle.js_text.specs.Character.{is_gap, starts_identifier, continues_identifier, is_digit}
-use Rattle.js_text.specs.Punctuator.{Punctuator, spelling_of, longest_punctuator, is_taken}
-use Rattle.js_text.specs.Token.{Goal, Div, RegExp, Template, Kind, Word, Numeral, StringLiteral, End, Token, Span}
+use Rattle.js_text.specs.declared.punctuator.Punctuator.{Punctuator}
+use Rattle.js_text.specs.Punctuator.{spelling_of, longest_punctuator, is_taken}
+use Rattle.js_text.specs.declared.goal.Goal.{Goal}
+use Rattle.js_text.specs.declared.goal.Goal.TheVariants.{Div, RegExp, Template}
+use Rattle.js_text.specs.Token.{Kind, Word, Numeral, StringLiteral, End, Token, Span}
 use Rattle.js_text.specs.Token as T
 
 -- the longest identifier that begins here: its first character, and those that go on with it

@@ -2,7 +2,6 @@ pub mod Begins
 pub mod Character
 pub mod Cursor
 pub mod Grammar
-pub mod Keyword
 pub mod Level
 pub mod Lex
 pub mod Limits
@@ -13,3 +12,4 @@ pub mod Reads
 pub mod Reserved
 pub mod Token
 pub mod Units
+pub mod Word

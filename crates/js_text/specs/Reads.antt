@@ -4,7 +4,9 @@ use Rattle.std.specs.Str.{chars}
 use Rattle.js_tree.specs.Plain.{File}
 use Rattle.js_tree.specs.Height.{height_file}
 use Rattle.js_text.specs.Place.{Place}
-use Rattle.js_text.specs.Token.{Goal, Div, Kind, Token}
+use Rattle.js_text.specs.declared.goal.Goal.{Goal}
+use Rattle.js_text.specs.declared.goal.Goal.TheVariants.{Div}
+use Rattle.js_text.specs.Token.{Kind, Token}
 use Rattle.js_text.specs.Lex.{next_token, token_place, offset_of}
 use Rattle.js_text.specs.Grammar.{Sentence, Dead}
 use Rattle.js_text.specs.Begins.{BeginsMore}

@@ -1,13 +1,8 @@
--- Tokens (ECMA-262, 12), and the goals for which they are read.
+-- Tokens (ECMA-262, 12).
 use Rattle.std.specs.Prelude.{ℕ, Bool, List, []}
 use Rattle.js_tree.specs.declared.place.Loc.{Loc}
-use Rattle.js_text.specs.Punctuator as P
-
--- what may follow: a division, a regular expression, or the rest of a template
-pub data Goal : Type 0 where
-  Div : Goal
-  RegExp : Goal
-  Template : Goal
+use Rattle.js_text.specs.declared.punctuator.Punctuator as P
+use Rattle.js_text.specs.Punctuator.{spelling_of}
 
 -- what a token is; a word, a numeral and a string literal have the bytes of their spelling
 pub data Kind : Type 0 where
@@ -23,7 +18,7 @@ abbrev pub spelling : Kind → List ℕ
 spelling (Word bytes) = bytes
 spelling (Numeral bytes) = bytes
 spelling (StringLiteral bytes) = bytes
-spelling (Punctuator p) = P.spelling_of p
+spelling (Punctuator p) = spelling_of p
 spelling End = []
 
 -- a part of a text: how many bytes stand before its start, and before its end

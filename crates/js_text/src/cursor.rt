@@ -41,6 +41,18 @@ impl<'a> Cursor<'a> {
         }
     }
 
+    /// Another cursor at the same place.
+    pub fn again(&self) -> Cursor<'a>
+        ensures { result ≡ self.now }
+    {
+        Cursor {
+            text: self.text,
+            rest: self.rest,
+            offset: self.offset,
+            position: self.position,
+        }
+    }
+
     /// The character that follows, and none exactly at the end.
     pub fn peek(&self) -> Option<char>
         ensures { result ≡ slice_get self.now.after 0 }

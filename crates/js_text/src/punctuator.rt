@@ -1,8 +1,7 @@
 ghost use Rattle.std.specs.Prelude.{◌≡◌};
-ghost use Rattle.js_lexer.specs.Punctuator.{plain_punctuator};
 ghost use Rattle.js_text.specs.Punctuator as spec;
 
-/// The punctuators of ECMA-262.
+/// The punctuators of ECMA-262 (12.8).
 #[derive(Clone, Copy, Debug, PartialEq, Eq)]
 pub enum Punctuator {
     /// `>>>=`
@@ -124,7 +123,7 @@ pub enum Punctuator {
 impl Punctuator {
     /// How it is written.
     pub fn spelling(self) -> &'static str
-        ensures { result.now ≡ spec.spelling_of (plain_punctuator self) }
+        ensures { result.now ≡ spec.spelling_of self }
     {
         match self {
             Punctuator::UnsignedShiftRightAssign => ">>>=",
@@ -186,23 +185,4 @@ impl Punctuator {
             Punctuator::Assign => "=",
         }
     }
-}
-
-/// Whether a punctuator is a token so far.
-pub(crate) fn is_taken(punctuator: Punctuator) -> bool
-    ensures { result ≡ spec.is_taken (plain_punctuator punctuator) }
-{
-    matches!(
-        punctuator,
-        Punctuator::OpenParenthesis
-            | Punctuator::CloseParenthesis
-            | Punctuator::OpenBrace
-            | Punctuator::CloseBrace
-            | Punctuator::Comma
-            | Punctuator::Semicolon
-            | Punctuator::Assign
-            | Punctuator::Plus
-            | Punctuator::Minus
-            | Punctuator::LessThan
-    )
 }

@@ -1,12 +1,12 @@
 ghost use Rattle.std.specs.Prelude.{◌≡◌};
-ghost use Rattle.js_parser.specs.Part.{expr_height, exprs_height, stmt_height, stmts_height, declarators_height, all_directives};
+ghost use Rattle.js_parser.specs.ReadHeights.{expr_height, exprs_height, stmt_height, stmts_height, declarators_height, all_directives};
 
 use items::{Boxed, Items};
 use js_tree::{Declarator, Expr, Loc, Stmt};
 
 /// An expression that is read, in the box in which a node around it holds it; its place, and its height.
 #[derive(Drop)]
-pub(crate) struct Part {
+pub(crate) struct ReadExpression {
     pub(crate) tree: Boxed<Expr>,
     pub(crate) loc: Loc,
     pub(crate) height: u64,
@@ -31,7 +31,7 @@ pub(crate) struct Declared {
 
 /// A statement that is read, in such a box; its place, and its height.
 #[derive(Drop)]
-pub(crate) struct Piece {
+pub(crate) struct ReadStatement {
     pub(crate) tree: Boxed<Stmt>,
     pub(crate) loc: Loc,
     pub(crate) height: u64,
@@ -40,7 +40,7 @@ pub(crate) struct Piece {
 
 /// Statements that are read, the height of the highest, and whether each is a directive.
 #[derive(Drop)]
-pub(crate) struct Pieces {
+pub(crate) struct ReadStatements {
     pub(crate) items: Items<Stmt>,
     pub(crate) height: u64,
     pub(crate) directives: bool,
