@@ -1,10 +1,10 @@
-pub mod Calls
 pub mod Causes
 pub mod Files
 pub mod HostSink
 pub mod HostStore
 pub mod MemorySink
 pub mod MemoryStore
+pub mod private
 pub mod Sink
 pub mod Store
 pub mod SureSink

@@ -1,5 +1,5 @@
 ghost use Rattle.std.specs.Prelude.{◌≡◌, ◌↔◌, Contains, IsTrue};
-ghost use Rattle.cov_base.specs.Calls.{raised};
+ghost use Rattle.cov_base.specs.private.Calls.{raised};
 
 /// The calls of an object, numbered from 1, with the numbers of those that fail.
 #[derive(Debug, Drop)]

@@ -31,7 +31,7 @@ impl<W: io::Write> HostSink<W> {
 
 impl<W: io::Write> Sink for HostSink<W> {
     ghost use Rattle.std.specs.Prelude.{None};
-    ghost use Rattle.cov_base.specs.Calls.{faults_after};
+    ghost use Rattle.cov_base.specs.private.Calls.{faults_after};
     ghost use Rattle.cov_base.specs.Causes.{HasCause};
     ghost use Rattle.cov_base.specs.HostSink.{faults_of, writer_of};
 

@@ -43,7 +43,7 @@ impl<R: Files + AllocGlobal> HostStore<R> {
 
 impl<R: Files + AllocGlobal> Store for HostStore<R> {
     ghost use Rattle.std.specs.Prelude.{None};
-    ghost use Rattle.cov_base.specs.Calls.{faults_after};
+    ghost use Rattle.cov_base.specs.private.Calls.{faults_after};
     ghost use Rattle.cov_base.specs.Causes.{HasCause};
     ghost use Rattle.cov_base.specs.HostStore.{read_faults_of, put_faults_of};
 

@@ -40,7 +40,7 @@ impl MemorySink {
 
 impl Sink for MemorySink {
     ghost use Rattle.std.specs.Prelude.{Some};
-    ghost use Rattle.cov_base.specs.Calls.{raised, faults_after};
+    ghost use Rattle.cov_base.specs.private.Calls.{raised, faults_after};
     ghost use Rattle.cov_base.specs.Causes.{HasCause};
     ghost use Rattle.cov_base.specs.Sink.{count_of, TakesSome};
     ghost use Rattle.cov_base.specs.MemorySink.{taken_of, fails_of, calls_of, faults_of};

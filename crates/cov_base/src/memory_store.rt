@@ -43,7 +43,7 @@ impl MemoryStore {
 
 impl Store for MemoryStore {
     ghost use Rattle.std.specs.Prelude.{Some};
-    ghost use Rattle.cov_base.specs.Calls.{raised, faults_after};
+    ghost use Rattle.cov_base.specs.private.Calls.{raised, faults_after};
     ghost use Rattle.cov_base.specs.Causes.{HasCause};
     ghost use Rattle.cov_base.specs.Store.{ReadsHeld, PutsAt};
     ghost use Rattle.cov_base.specs.MemoryStore.{held_of, fails_of, calls_of, read_faults_of, put_faults_of};

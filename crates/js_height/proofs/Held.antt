@@ -1,7 +1,7 @@
 -- How a height is held: its parts may be held first.
 use Rattle.std.proofs.Common.{◌≡◌, ◌∙◌, ℕ, ◌+◌, ◌-◌, ◌^◌, max, min, Some, None, arith, refl, ap}
 use Rattle.js_tree.proofs.Equations.{tree_rules, param_made, expr_if_none, expr_if_some}
-use Rattle.js_height.specs.Held.{held}
+use Rattle.js_height.specs.private.Held.{held}
 use Rattle.js_tree.specs.Height.{height_expr, height_param, height_pattern}
 use Rattle.js_tree.specs.Plain as P
 use Rattle.js_tree.specs.Tree.{plain_expr, plain_expr_if, plain_param, plain_pattern}

@@ -1,5 +1,5 @@
 ghost use Rattle.std.specs.Prelude.{◌≡◌, ◌+◌, ◌-◌, ◌^◌, max, min};
-ghost use Rattle.js_height.specs.Held.{held};
+ghost use Rattle.js_height.specs.private.Held.{held};
 ghost use Rattle.js_tree.specs.Height.{height_file, height_expr, height_stmt, height_property, height_property_key, height_concise_body, height_for_init, height_for_target, height_template_part, height_function, height_function_body, height_param, height_declarator, height_case, height_catch, height_pattern, height_pattern_if, height_expr_if, height_stmt_if, height_template_parts, height_properties, height_params, height_exprs, height_stmts, height_declarators, height_cases};
 ghost use Rattle.js_tree.specs.Tree.{plain_file, plain_expr, plain_stmt, plain_property, plain_property_key, plain_concise_body, plain_for_init, plain_for_target, plain_template_part, plain_function, plain_function_body, plain_param, plain_declarator, plain_case, plain_catch, plain_pattern, plain_pattern_if, plain_expr_if, plain_stmt_if, plain_template_parts, plain_properties, plain_params, plain_exprs, plain_stmts, plain_declarators, plain_cases};
 
@@ -327,7 +327,7 @@ fn of_stmt_if(stmt: &Option<Boxed<Stmt>>) -> u64
 }
 
 #[cycle(height)]
-#[tactic(auto, using(js_tree::proofs::Equations::tree_rules), unfolding(crate::specs::Held::held))]
+#[tactic(auto, using(js_tree::proofs::Equations::tree_rules), unfolding(crate::specs::private::Held::held))]
 fn of_template_parts(template_parts: &[TemplatePart]) -> u64
     ensures { result ≡ held (height_template_parts (plain_template_parts template_parts.now)) }
 {
@@ -339,7 +339,7 @@ fn of_template_parts(template_parts: &[TemplatePart]) -> u64
 }
 
 #[cycle(height)]
-#[tactic(auto, using(js_tree::proofs::Equations::tree_rules), unfolding(crate::specs::Held::held))]
+#[tactic(auto, using(js_tree::proofs::Equations::tree_rules), unfolding(crate::specs::private::Held::held))]
 fn of_properties(properties: &[Property]) -> u64
     ensures { result ≡ held (height_properties (plain_properties properties.now)) }
 {
@@ -351,7 +351,7 @@ fn of_properties(properties: &[Property]) -> u64
 }
 
 #[cycle(height)]
-#[tactic(auto, using(js_tree::proofs::Equations::tree_rules), unfolding(crate::specs::Held::held))]
+#[tactic(auto, using(js_tree::proofs::Equations::tree_rules), unfolding(crate::specs::private::Held::held))]
 fn of_params(params: &[Param]) -> u64
     ensures { result ≡ held (height_params (plain_params params.now)) }
 {
@@ -363,7 +363,7 @@ fn of_params(params: &[Param]) -> u64
 }
 
 #[cycle(height)]
-#[tactic(auto, using(js_tree::proofs::Equations::tree_rules), unfolding(crate::specs::Held::held))]
+#[tactic(auto, using(js_tree::proofs::Equations::tree_rules), unfolding(crate::specs::private::Held::held))]
 fn of_exprs(exprs: &[Expr]) -> u64
     ensures { result ≡ held (height_exprs (plain_exprs exprs.now)) }
 {
@@ -375,7 +375,7 @@ fn of_exprs(exprs: &[Expr]) -> u64
 }
 
 #[cycle(height)]
-#[tactic(auto, using(js_tree::proofs::Equations::tree_rules), unfolding(crate::specs::Held::held))]
+#[tactic(auto, using(js_tree::proofs::Equations::tree_rules), unfolding(crate::specs::private::Held::held))]
 fn of_stmts(stmts: &[Stmt]) -> u64
     ensures { result ≡ held (height_stmts (plain_stmts stmts.now)) }
 {
@@ -387,7 +387,7 @@ fn of_stmts(stmts: &[Stmt]) -> u64
 }
 
 #[cycle(height)]
-#[tactic(auto, using(js_tree::proofs::Equations::tree_rules), unfolding(crate::specs::Held::held))]
+#[tactic(auto, using(js_tree::proofs::Equations::tree_rules), unfolding(crate::specs::private::Held::held))]
 fn of_declarators(declarators: &[Declarator]) -> u64
     ensures { result ≡ held (height_declarators (plain_declarators declarators.now)) }
 {
@@ -399,7 +399,7 @@ fn of_declarators(declarators: &[Declarator]) -> u64
 }
 
 #[cycle(height)]
-#[tactic(auto, using(js_tree::proofs::Equations::tree_rules), unfolding(crate::specs::Held::held))]
+#[tactic(auto, using(js_tree::proofs::Equations::tree_rules), unfolding(crate::specs::private::Held::held))]
 fn of_cases(cases: &[Case]) -> u64
     ensures { result ≡ held (height_cases (plain_cases cases.now)) }
 {

@@ -1,2 +1,2 @@
-pub mod Class
+pub mod private
 pub mod Token

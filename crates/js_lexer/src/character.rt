@@ -1,5 +1,5 @@
 ghost use Rattle.std.specs.Prelude.{◌≡◌};
-ghost use Rattle.js_lexer.specs.Class.{test_of};
+ghost use Rattle.js_lexer.specs.private.Class.{test_of};
 ghost use Rattle.js_text.specs.Character as spec;
 ghost use Rattle.js_text.specs.Lex as lex;
 ghost use Rattle.js_text.specs.Position as position;

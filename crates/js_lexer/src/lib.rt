@@ -4,11 +4,9 @@
 mod character;
 mod lexer;
 mod longest;
-mod reserved;
 mod scan;
 mod token;
 
 pub use js_text::{Goal, Punctuator};
 pub use lexer::{LexFault, Lexer};
-pub use reserved::is_reserved;
 pub use token::{Span, Token, TokenKind};

@@ -1,6 +1,6 @@
 ghost use Rattle.std.specs.Prelude.{◌≡◌, ℕ, List, ◌∷◌, ◌++◌, ◌<◌, length, take, take_while, drop, slice_get, Some, encode_utf8_all};
 ghost use Rattle.std.specs.List.{list_any};
-ghost use Rattle.js_lexer.specs.Class.{test_of};
+ghost use Rattle.js_lexer.specs.private.Class.{test_of};
 ghost use Rattle.js_lexer.specs.Token.{kind_of, KindIs, StringEnds};
 ghost use Rattle.js_text.specs.Character as character;
 ghost use Rattle.js_text.specs.Lex as spec;

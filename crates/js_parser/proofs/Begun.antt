@@ -7,8 +7,8 @@ use Rattle.js_text.specs.Level.{level, binary_level, assignment, called}
 use Rattle.js_text.specs.Grammar
 use Rattle.js_text.specs.Grammar.{SpellsStmts, no_statement, SpellsBody, statements}
 use Rattle.js_text.specs.Begins.{BeginsExpr, no_token, whole, begins_parentheses, begins_call, begins_operation, begins_assignment, BeginsStmt, no_stmt_token, whole_stmt, begins_block, begins_var, begins_name, begins_initializer, begins_expression, begins_if, begins_if_test, begins_then, begins_else, begins_while, begins_while_test, begins_while_body, no_stmts_token, begins_last, BeginsFile, no_file_token, begins_file, BeginsMore}
-use Rattle.js_parser.specs.Floor.{up, floor}
-use Rattle.js_parser.specs.Machine.{OfIf, OfWhile, Frame, InBinary, Config, need, run, start}
+use Rattle.js_parser.specs.private.Floor.{up, floor}
+use Rattle.js_parser.specs.private.Machine.{OfIf, OfWhile, Frame, InBinary, Config, need, run, start}
 use Rattle.js_parser.proofs.Stands.{needs, needs_low, AnExpression, AStatement, has_token, is_fresh, Frames, in_body, in_block, in_expression, in_test, in_initializer, in_if, in_else, in_while, in_binary, in_parentheses, in_assignment, in_call, HasRead, wanting, having, starting, ended, directed, opening_test, naming, named, finished}
 use Rattle.js_parser.proofs.Sound.{stands}
 

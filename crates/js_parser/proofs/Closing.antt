@@ -4,7 +4,7 @@ use Rattle.js_tree.specs.declared.place.Loc.{Loc}
 use Rattle.js_tree.specs.Plain.{Expr, Stmt, Stmts}
 use Rattle.js_text.specs.Token.{Kind}
 use Rattle.js_text.specs.Token as T
-use Rattle.js_parser.specs.Machine.{InIf, InElse, InWhile, InBlock, InBody, close_kind}
+use Rattle.js_parser.specs.private.Machine.{InIf, InElse, InWhile, InBlock, InBody, close_kind}
 
 pub closed_if : (w : Loc) (c : Expr) (fs : _) (e : Expr) (l : Loc) (k : Kind) (lt : Loc) → close_kind (InIf w c) fs e l k lt ≡ None
 closed_if w c fs e l (T.Punctuator p) lt = refl

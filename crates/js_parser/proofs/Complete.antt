@@ -13,7 +13,7 @@ use Rattle.js_text.specs.Word.{reserved_word}
 use Rattle.js_text.specs.Level.{level}
 use Rattle.js_text.specs.Grammar
 use Rattle.js_text.specs.Grammar.{through, Is, IsWord, spelled, SpellsExpr, reference, null_literal, true_literal, false_literal, number, string, parentheses, call, operation, assigns, SpellsDeclarator, SpellsDeclarators, first, SpellsStmt, SpellsStmts, no_statement, more_statements, is_string_statement, begins_with_string, SpellsBody, Sentence, Dead}
-use Rattle.js_parser.specs.Machine.{Test, OfIf, OfWhile, Frame, InExpression, InTest, InInitializer, InIf, InElse, InWhile, InBlock, InBody, Want, Have, Begin, After, WantOpen, WantName, HaveName, Finished, Config, at, Apart, join, wants, have_if, word_operand, name_class, begin, begin_word, is_else, is_else_word, after, in_prologue, is_directive, are_directives, statement_of, declarator_of, plain_declarator_of, declared, test_frame, step, step_kind, then_run, run, start}
+use Rattle.js_parser.specs.private.Machine.{Test, OfIf, OfWhile, Frame, InExpression, InTest, InInitializer, InIf, InElse, InWhile, InBlock, InBody, Want, Have, Begin, After, WantOpen, WantName, HaveName, Finished, Config, at, Apart, join, wants, have_if, word_operand, name_class, begin, begin_word, is_else, is_else_word, after, in_prologue, is_directive, are_directives, statement_of, declarator_of, plain_declarator_of, declared, test_frame, step, step_kind, then_run, run, start}
 use Rattle.js_text.proofs.Words.{written-reserved_word}
 use Rattle.js_parser.proofs.Words.{fits_as}
 use Rattle.js_parser.proofs.Levels.{some_level}

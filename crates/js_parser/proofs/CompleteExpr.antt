@@ -14,7 +14,7 @@ use Rattle.js_text.specs.declared.word.ReservedWord.TheVariants as reserved
 use Rattle.js_text.specs.Word.{reserved_word}
 use Rattle.js_text.specs.Level.{level, binary_level, left_level, right_level}
 use Rattle.js_text.specs.Grammar.{through, Is, IsWord, spelled, Sign, plus, minus, less, is_target, SpellsExpr, reference, null_literal, true_literal, false_literal, number, string, parentheses, call, operation, assigns, SpellsArguments, no_argument, last_argument, more_arguments}
-use Rattle.js_parser.specs.Machine.{Frame, InBinary, InParentheses, InCall, InAssignment, Mode, Want, Have, Config, at, Join, ByOperator, ByCall, ByAssignment, Apart, join, strength, wants, need, word_operand, have_if, joined, shift, grown, close, close_kind, or_close, have, step, step_kind, then_run, run}
+use Rattle.js_parser.specs.private.Machine.{Frame, InBinary, InParentheses, InCall, InAssignment, Mode, Want, Have, Config, at, Join, ByOperator, ByCall, ByAssignment, Apart, join, strength, wants, need, word_operand, have_if, joined, shift, grown, close, close_kind, or_close, have, step, step_kind, then_run, run}
 use Rattle.js_text.proofs.Words.{written-reserved_word}
 use Rattle.js_parser.proofs.Levels.{left_least, right_least, right_of, low_of, target_high, some_level}
 use Rattle.js_parser.proofs.Lists.{append_exprs, exprs_end, exprs_push, exprs_last}

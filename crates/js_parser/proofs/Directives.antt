@@ -2,7 +2,7 @@
 use Rattle.std.proofs.Common.{◌≡◌, Some, Bool, true, false, ◌&&◌, refl, ap, ◌∙◌}
 use Rattle.js_tree.specs.declared.place.Loc.{Loc}
 use Rattle.js_tree.specs.Plain.{Expr, StringLiteral, Expression, Stmt, Stmts, no_stmt, more_stmt, push_stmts}
-use Rattle.js_parser.specs.Machine.{is_directive, are_directives, is_string, statement_of}
+use Rattle.js_parser.specs.private.Machine.{is_directive, are_directives, is_string, statement_of}
 
 and_assoc : (a b c : Bool) → (a && (b && c)) ≡ ((a && b) && c)
 and_assoc true b c = refl

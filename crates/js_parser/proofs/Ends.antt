@@ -6,8 +6,8 @@ use Rattle.js_tree.specs.Plain.{Expr, Binary, Assignment, Stmt, Stmts, If, While
 use Rattle.js_tree.specs.Height.{height_stmt, height_stmts}
 use Rattle.js_text.specs.Token.{End}
 use Rattle.js_text.specs.Grammar.{through}
-use Rattle.js_parser.specs.Floor.{lift, up, floor}
-use Rattle.js_parser.specs.Machine.{Frame, InBinary, InAssignment, InIf, InElse, InWhile, InBody, Mode, Have, Begin, After, Finished, Config, at, need, close_file, after, grown, close_kind, or_close, have, step_kind}
+use Rattle.js_parser.specs.private.Floor.{lift, up, floor}
+use Rattle.js_parser.specs.private.Machine.{Frame, InBinary, InAssignment, InIf, InElse, InWhile, InBody, Mode, Have, Begin, After, Finished, Config, at, need, close_file, after, grown, close_kind, or_close, have, step_kind}
 use Rattle.js_parser.proofs.Floor.{up_big, max_push_stmts}
 use Rattle.js_parser.proofs.Steps.{two_ways}
 use Rattle.js_parser.proofs.Levels.{right_some}

@@ -12,8 +12,8 @@ use Rattle.js_text.specs.declared.word.ReservedWord.{ReservedWord}
 use Rattle.js_text.specs.declared.word.ReservedWord.TheVariants as reserved
 use Rattle.js_text.specs.Word.{reserved_word}
 use Rattle.js_text.specs.Grammar.{through, is_target, Sentence}
-use Rattle.js_parser.specs.Machine.{Test, OfIf, OfWhile, Frame, InBinary, InParentheses, InCall, InAssignment, InExpression, InTest, InInitializer, InIf, InElse, InWhile, InBlock, InBody, Want, Have, Begin, After, WantOpen, WantName, HaveName, Finished, Config, at, word_operand, have_if, close_call, want, begin_word, close_block, close_file, begin, is_else, after, Join, ByOperator, ByCall, ByAssignment, Apart, join, joined, grown, in_prologue, statement_of, declarator_of, plain_declarator_of, close, close_kind, or_close, have, name_class, want_name, have_name_kind, want_open, step, then_run, run, start}
-use Rattle.js_parser.specs.Floor.{lift, up, floor}
+use Rattle.js_parser.specs.private.Machine.{Test, OfIf, OfWhile, Frame, InBinary, InParentheses, InCall, InAssignment, InExpression, InTest, InInitializer, InIf, InElse, InWhile, InBlock, InBody, Want, Have, Begin, After, WantOpen, WantName, HaveName, Finished, Config, at, word_operand, have_if, close_call, want, begin_word, close_block, close_file, begin, is_else, after, Join, ByOperator, ByCall, ByAssignment, Apart, join, joined, grown, in_prologue, statement_of, declarator_of, plain_declarator_of, close, close_kind, or_close, have, name_class, want_name, have_name_kind, want_open, step, then_run, run, start}
+use Rattle.js_parser.specs.private.Floor.{lift, up, floor}
 use Rattle.js_parser.proofs.Complete.{complete, run-append}
 use Rattle.js_parser.proofs.Steps.{chosen, guarded, two_ways, shifted}
 

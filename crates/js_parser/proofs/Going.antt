@@ -12,9 +12,9 @@ use Rattle.js_text.specs.Grammar.{through, is_target}
 use Rattle.js_text.specs.declared.word.ReservedWord.{ReservedWord}
 use Rattle.js_text.specs.declared.word.ReservedWord.TheVariants as reserved
 use Rattle.js_text.specs.Word.{reserved_word}
-use Rattle.js_parser.specs.Floor.{up, floor}
-use Rattle.js_parser.specs.Machine.{Frame, InParentheses, InCall, InAssignment, InExpression, InTest, InInitializer, InIf, InElse, InWhile, InBlock, InBody, Mode, Want, Have, Begin, After, WantOpen, WantName, HaveName, Finished, Config, at, word_operand, have_if, close_call, want_punctuator, want, begin_word, close_block, begin_punctuator, begin, is_else, after, Join, ByOperator, ByCall, ByAssignment, Apart, join, strength, wants, need, joined, shift, grown, close, close_kind, or_close, have, name_class, want_name, have_name, have_name_kind, open_test, want_open, step_kind, step}
-use Rattle.js_parser.specs.Turn.{standing, has_ended}
+use Rattle.js_parser.specs.private.Floor.{up, floor}
+use Rattle.js_parser.specs.private.Machine.{Frame, InParentheses, InCall, InAssignment, InExpression, InTest, InInitializer, InIf, InElse, InWhile, InBlock, InBody, Mode, Want, Have, Begin, After, WantOpen, WantName, HaveName, Finished, Config, at, word_operand, have_if, close_call, want_punctuator, want, begin_word, close_block, begin_punctuator, begin, is_else, after, Join, ByOperator, ByCall, ByAssignment, Apart, join, strength, wants, need, joined, shift, grown, close, close_kind, or_close, have, name_class, want_name, have_name, have_name_kind, open_test, want_open, step_kind, step}
+use Rattle.js_parser.specs.private.Turn.{standing, has_ended}
 use Rattle.js_parser.proofs.Ends.{ends}
 
 abbrev going_mode : Mode → Type 0

@@ -4,8 +4,8 @@ use Rattle.std.proofs.lemmas.Bool.{true≢false}
 use Rattle.js_tree.specs.declared.place.Loc.{Loc}
 use Rattle.js_text.specs.declared.word.ReservedWord.{ReservedWord}
 use Rattle.js_text.specs.declared.word.ReservedWord.TheVariants as reserved
-use Rattle.js_parser.specs.Head.{heads_statement}
-use Rattle.js_parser.specs.Machine.{Frame, InExpression, have_if, word_operand, begin_word}
+use Rattle.js_parser.specs.private.Head.{heads_statement}
+use Rattle.js_parser.specs.private.Machine.{Frame, InExpression, have_if, word_operand, begin_word}
 
 pub heads_none : (class : Option ReservedWord) (word : List ℕ) (l : Loc) (fs : List Frame) → heads_statement class ≡ false → begin_word class word l fs ≡ have_if (word_operand class word l) l (InExpression ∷ fs)
 heads_none (Some reserved.Var) word l fs h = absurd (true≢false h)

@@ -8,7 +8,7 @@ use Rattle.js_tree.specs.declared.operators.LogicalOperator.TheVariants as l
 use Rattle.js_tree.specs.Plain as P
 use Rattle.js_text.specs.Grammar.{is_target}
 use Rattle.js_text.specs.Level.{level, binary_level, left_level, right_level, logical_level, assignment, any}
-use Rattle.js_parser.specs.Machine.{Join, ByOperator, ByCall, ByAssignment, Apart, strength, wants}
+use Rattle.js_parser.specs.private.Machine.{Join, ByOperator, ByCall, ByAssignment, Apart, strength, wants}
 
 -- what the lemmas below need of an operator
 record Levels (o : BinaryOperator) : Type 0 where

@@ -2,10 +2,10 @@
 use Rattle.std.proofs.Common.{◌≡◌, ℕ, ◌+◌, max, List, [], ◌∷◌, ◌++◌, refl, sym, ap, subst, ◌∙◌, arith}
 use Rattle.std.proofs.lemmas.List.{reverse-append}
 use Rattle.js_parser.specs.declared.stack.Held.{Held}
-use Rattle.js_parser.specs.Machine.{Frame, InBinary, InParentheses, InCall, InAssignment, InExpression, InTest, InInitializer, InIf, InElse, InWhile, InBlock, InBody}
-use Rattle.js_parser.specs.Floor.{lift, up}
-use Rattle.js_parser.specs.Stack.{levels, depth, lowest, frames_of, counted, stack_of, is_counted}
-use Rattle.js_parser.specs.View.{frame, frames}
+use Rattle.js_parser.specs.private.Machine.{Frame, InBinary, InParentheses, InCall, InAssignment, InExpression, InTest, InInitializer, InIf, InElse, InWhile, InBlock, InBody}
+use Rattle.js_parser.specs.private.Floor.{lift, up}
+use Rattle.js_parser.specs.private.Stack.{levels, depth, lowest, frames_of, counted, stack_of, is_counted}
+use Rattle.js_parser.specs.private.View.{frame, frames}
 
 pub stack_empty : stack_of [] ≡ []
 unfolding stack_of

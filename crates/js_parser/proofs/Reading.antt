@@ -16,10 +16,10 @@ use Rattle.js_parser.specs.declared.reader.Progress.TheVariants as progress
 use Rattle.js_parser.specs.declared.refused.Refusal.{Refusal}
 use Rattle.js_parser.specs.declared.refused.Refusal.TheVariants as why
 use Rattle.js_parser.specs.declared.refused.Refused.{Refused}
-use Rattle.js_parser.specs.Machine.{Frame, Mode, Begin, Finished, at, start}
-use Rattle.js_parser.specs.Turn.{has_ended, TakesOne, Refuses, StopsAt}
+use Rattle.js_parser.specs.private.Machine.{Frame, Mode, Begin, Finished, at, start}
+use Rattle.js_parser.specs.private.Turn.{has_ended, TakesOne, Refuses, StopsAt}
 use Rattle.js_parser.specs.Refused.{Because, RefusesText}
-use Rattle.js_parser.specs.View.{mode}
+use Rattle.js_parser.specs.private.View.{mode}
 use Rattle.js_parser.proofs.TokenPaths.{Taken, GoingOn, taken_none, taken_more, no_tree, too_high, reads_whole, reads_only}
 use Rattle.js_parser.proofs.Going.{ended_within, goes_on_before_the_end, floor_is}
 

@@ -12,7 +12,7 @@ use Rattle.js_text.specs.Word.{reserved_word}
 use Rattle.js_text.specs.Level.{level, binary_level, left_level, assignment, called}
 use Rattle.js_text.specs.Grammar.{through, Is, IsWord, spelled, Sign, is_target, SpellsExpr, SpellsArguments, more_arguments, SpellsDeclarators, more, first, SpellsStmt, SpellsStmts, no_statement, more_statements, is_string_statement, SpellsBody, directive, statements, Sentence}
 use Rattle.js_text.specs.Begins.{SpellsItems, no_item, one_item, SpellsDeclared, no_declared, one_declared}
-use Rattle.js_parser.specs.Machine.{Test, OfIf, OfWhile, Frame, InBinary, InParentheses, InCall, InAssignment, InExpression, InTest, InInitializer, InIf, InElse, InWhile, InBlock, InBody, Want, Have, Begin, After, WantOpen, WantName, HaveName, Finished, Config, at, need, are_directives}
+use Rattle.js_parser.specs.private.Machine.{Test, OfIf, OfWhile, Frame, InBinary, InParentheses, InCall, InAssignment, InExpression, InTest, InInitializer, InIf, InElse, InWhile, InBlock, InBody, Want, Have, Begin, After, WantOpen, WantName, HaveName, Finished, Config, at, need, are_directives}
 use Rattle.js_parser.proofs.Levels.{right_high}
 use Rattle.js_parser.proofs.Lists.{append_exprs, exprs_push, append_declarators, declarators_push}
 use Rattle.js_parser.proofs.Complete.{fine, no_directive}

@@ -5,7 +5,7 @@ use Rattle.js_tree.specs.declared.place.Loc.{Loc}
 use Rattle.js_tree.specs.Plain.{Expr}
 use Rattle.js_text.specs.Token.{Kind}
 use Rattle.js_text.specs.Level.{level}
-use Rattle.js_parser.specs.Machine.{Frame, Config, Join, join, strength, wants, need, joined, shift, grown, close_kind, or_close, have}
+use Rattle.js_parser.specs.private.Machine.{Frame, Config, Join, join, strength, wants, need, joined, shift, grown, close_kind, or_close, have}
 
 -- which branch gave the result
 pub chosen : {A : Type 0} (b : Bool) (x y z : A) → (if b then x else y) ≡ z → ((b ≡ true) × (x ≡ z)) ⊎ ((b ≡ false) × (y ≡ z))

@@ -7,8 +7,8 @@ use Rattle.js_text.specs.declared.goal.Goal.TheVariants.{Div}
 use Rattle.js_text.specs.Token.{Token}
 use Rattle.js_text.specs.Lex.{next_token, token_place, offset_of}
 use Rattle.js_text.specs.Grammar.{Sentence}
-use Rattle.js_parser.specs.Machine.{Frame, Finished, Config, at, step, then_run, run, start}
-use Rattle.js_parser.specs.Floor.{floor}
+use Rattle.js_parser.specs.private.Machine.{Frame, Finished, Config, at, step, then_run, run, start}
+use Rattle.js_parser.specs.private.Floor.{floor}
 use Rattle.js_text.specs.Reads.{Lexes, no_token, one_more, goal_of, start_of, Reads, NoTree, TooHigh}
 use Rattle.js_parser.proofs.Complete.{complete, run-append, dead, bare}
 use Rattle.js_parser.proofs.Sound.{sound}

@@ -1,9 +1,2 @@
-pub mod Machine
-pub mod Floor
-pub mod ReadHeights
-pub mod Make
-pub mod View
-pub mod Stack
-pub mod Turn
+pub mod private
 pub mod Refused
-pub mod Head

@@ -1,9 +1,9 @@
 ghost use Rattle.js_lexer.specs.Token.{kind_of};
 ghost use Rattle.std.specs.Prelude.{◌≡◌, false};
-ghost use Rattle.js_parser.specs.Head.{heads_statement};
-ghost use Rattle.js_parser.specs.Machine as machine;
-ghost use Rattle.js_parser.specs.View.{Turns};
-ghost use Rattle.js_parser.specs.View as view;
+ghost use Rattle.js_parser.specs.private.Head.{heads_statement};
+ghost use Rattle.js_parser.specs.private.Machine as machine;
+ghost use Rattle.js_parser.specs.private.View.{Turns};
+ghost use Rattle.js_parser.specs.private.View as view;
 
 use crate::frame::{Frame, Mode, Test, Turn, discard};
 use crate::prologue::statement;

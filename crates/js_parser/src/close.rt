@@ -1,7 +1,7 @@
 ghost use Rattle.js_lexer.specs.Token.{kind_of};
 ghost use Rattle.js_tree.specs.Tree.{plain_declarators, plain_expr, plain_exprs};
-ghost use Rattle.js_parser.specs.View.{Turns};
-ghost use Rattle.js_parser.specs.View as view;
+ghost use Rattle.js_parser.specs.private.View.{Turns};
+ghost use Rattle.js_parser.specs.private.View as view;
 
 use crate::frame::{Frame, Mode, Test, Turn};
 use crate::place::through;

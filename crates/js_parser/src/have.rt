@@ -1,9 +1,9 @@
 ghost use Rattle.std.specs.Prelude.{◌+◌, ◌*◌, length};
 ghost use Rattle.js_lexer.specs.Token.{kind_of};
 ghost use Rattle.js_tree.specs.Tree.{plain_expr};
-ghost use Rattle.js_parser.specs.Machine as machine;
-ghost use Rattle.js_parser.specs.View.{Turns, taken};
-ghost use Rattle.js_parser.specs.View as view;
+ghost use Rattle.js_parser.specs.private.Machine as machine;
+ghost use Rattle.js_parser.specs.private.View.{Turns, taken};
+ghost use Rattle.js_parser.specs.private.View as view;
 
 use crate::close::{
     close_arguments, close_initializer, close_parentheses, close_statement, close_test,

@@ -5,8 +5,8 @@ ghost use Rattle.js_tree.specs.declared.operators.AssignmentOperator.TheVariants
 ghost use Rattle.js_tree.specs.declared.operators.VariableKind.TheVariants as variable;
 ghost use Rattle.js_text.specs.Grammar.{spelled};
 ghost use Rattle.js_text.specs.Grammar as grammar;
-ghost use Rattle.js_parser.specs.Machine as machine;
-ghost use Rattle.js_parser.specs.Make.{Makes, MakesStatement, MakesArguments, MakesDeclared, MakesStatements};
+ghost use Rattle.js_parser.specs.private.Machine as machine;
+ghost use Rattle.js_parser.specs.private.Make.{Makes, MakesStatement, MakesArguments, MakesDeclared, MakesStatements};
 
 use crate::place::through;
 use crate::read::{Arguments, Declared, ReadExpression, ReadStatement, ReadStatements};

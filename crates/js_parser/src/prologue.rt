@@ -1,9 +1,9 @@
 ghost use Rattle.std.specs.Prelude.{◌≡◌, false, IfOk, IfErr, OnOk, OnErr};
 ghost use Rattle.js_tree.specs.Plain as P;
 ghost use Rattle.js_tree.specs.Tree.{plain_expr};
-ghost use Rattle.js_parser.specs.Machine as machine;
-ghost use Rattle.js_parser.specs.Make.{MakesStatement};
-ghost use Rattle.js_parser.specs.View as view;
+ghost use Rattle.js_parser.specs.private.Machine as machine;
+ghost use Rattle.js_parser.specs.private.Make.{MakesStatement};
+ghost use Rattle.js_parser.specs.private.View as view;
 
 use crate::frame::Frame;
 use crate::make;

@@ -1,5 +1,5 @@
 ghost use Rattle.std.specs.Prelude.{◌≡◌};
-ghost use Rattle.js_parser.specs.ReadHeights.{expr_height, exprs_height, stmt_height, stmts_height, declarators_height, all_directives};
+ghost use Rattle.js_parser.specs.private.ReadHeights.{expr_height, exprs_height, stmt_height, stmts_height, declarators_height, all_directives};
 
 use items::{Boxed, Items};
 use js_tree::{Declarator, Expr, Loc, Stmt};

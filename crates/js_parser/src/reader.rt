@@ -6,10 +6,10 @@ ghost use Rattle.js_text.specs.declared.goal.Goal.TheVariants.{Div};
 ghost use Rattle.js_tree.specs.Tree.{plain_file};
 ghost use Rattle.js_lexer.specs.Token.{plain_token};
 ghost use Rattle.js_text.specs.Reads.{Reads};
-ghost use Rattle.js_parser.specs.Turn.{standing, reached, Goes, Taken, TakesOne, Refuses};
+ghost use Rattle.js_parser.specs.private.Turn.{standing, reached, Goes, Taken, TakesOne, Refuses};
 ghost use Rattle.js_parser.specs.Refused.{RefusesText};
-ghost use Rattle.js_parser.specs.Machine as machine;
-ghost use Rattle.js_parser.specs.View as view;
+ghost use Rattle.js_parser.specs.private.Machine as machine;
+ghost use Rattle.js_parser.specs.private.View as view;
 
 use crate::frame::{Frame, Mode};
 use crate::read::ReadStatements;

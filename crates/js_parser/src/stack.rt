@@ -1,7 +1,7 @@
 ghost use Rattle.std.specs.Prelude.{◌≡◌, ◌+◌, ◌∷◌, [], IfOk, IfSome, IfNone, OnErr, OnOk};
-ghost use Rattle.js_parser.specs.Stack as spec;
-ghost use Rattle.js_parser.specs.Floor.{up};
-ghost use Rattle.js_parser.specs.View as view;
+ghost use Rattle.js_parser.specs.private.Stack as spec;
+ghost use Rattle.js_parser.specs.private.Floor.{up};
+ghost use Rattle.js_parser.specs.private.View as view;
 
 use crate::frame::Frame;
 use items::Memory;
@@ -30,9 +30,9 @@ impl Model for Stack {
     ghost use Rattle.std.specs.Coded.{codes};
     ghost use Rattle.js_parser.specs.declared.frame.Frame.{Frame};
     ghost use Rattle.js_parser.specs.contracts.frame.Frame as contract;
-    ghost use Rattle.js_parser.specs.Stack as spec;
-    ghost use Rattle.js_parser.specs.View.{frames};
-    ghost use Rattle.js_parser.specs.Floor.{up};
+    ghost use Rattle.js_parser.specs.private.Stack as spec;
+    ghost use Rattle.js_parser.specs.private.View.{frames};
+    ghost use Rattle.js_parser.specs.private.Floor.{up};
 
     ghost Value = { List Frame };
 

@@ -1,8 +1,8 @@
 ghost use Rattle.std.specs.Prelude.{length};
 ghost use Rattle.js_lexer.specs.Token.{kind_of};
-ghost use Rattle.js_parser.specs.Machine as machine;
-ghost use Rattle.js_parser.specs.View.{Turns, Gives, rank};
-ghost use Rattle.js_parser.specs.View as view;
+ghost use Rattle.js_parser.specs.private.Machine as machine;
+ghost use Rattle.js_parser.specs.private.View.{Turns, Gives, rank};
+ghost use Rattle.js_parser.specs.private.View as view;
 
 use crate::Refusal;
 use crate::after::after;

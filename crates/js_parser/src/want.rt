@@ -1,8 +1,8 @@
 ghost use Rattle.std.specs.Prelude.{IfOk};
 ghost use Rattle.js_lexer.specs.Token.{kind_of};
-ghost use Rattle.js_parser.specs.Machine as machine;
-ghost use Rattle.js_parser.specs.View.{Turns, IsOperand};
-ghost use Rattle.js_parser.specs.View as view;
+ghost use Rattle.js_parser.specs.private.Machine as machine;
+ghost use Rattle.js_parser.specs.private.View.{Turns, IsOperand};
+ghost use Rattle.js_parser.specs.private.View as view;
 
 use crate::frame::{Frame, Mode, Turn, discard};
 use crate::read::ReadExpression;

@@ -9,7 +9,6 @@ pub mod Place
 pub mod Position
 pub mod Punctuator
 pub mod Reads
-pub mod Reserved
 pub mod Token
 pub mod Units
 pub mod Word

@@ -1,5 +1,5 @@
 use Rattle.std.proofs.Common.{◌≡◌, max, drop}
-use Rattle.js_height.specs.Held.{held}
+use Rattle.js_height.specs.private.Held.{held}
 use Rattle.js_tree.specs.Height.{height_template_parts, height_properties, height_params, height_exprs, height_stmts, height_declarators, height_cases}
 use Rattle.js_tree.specs.Tree.{plain_template_parts, plain_properties, plain_params, plain_exprs, plain_stmts, plain_declarators, plain_cases}
 use Rattle.js_height.proofs.heights.+height.Given as goal

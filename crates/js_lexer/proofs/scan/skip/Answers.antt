@@ -1,6 +1,6 @@
 -- Each turn moves over the next character of the run, and the run ends where the loop does.
 use Rattle.std.proofs.Common.{sym, ◌∙◌}
-use Rattle.js_lexer.specs.Class.{test_of}
+use Rattle.js_lexer.specs.private.Class.{test_of}
 use Rattle.js_lexer.proofs.Places.{bumped, past_while-step, past_while-stop, past_while-end}
 use Rattle.js_lexer.proofs.scan.skip.Goals as goal
 

@@ -1,5 +1,5 @@
 use Rattle.std.proofs.Common.{◌≡◌, length}
-use Rattle.js_lexer.specs.Class.{test_of}
+use Rattle.js_lexer.specs.private.Class.{test_of}
 use Rattle.js_lexer.proofs.Places.{past_while}
 use Rattle.js_lexer.proofs.scan.skip.Given as goal
 

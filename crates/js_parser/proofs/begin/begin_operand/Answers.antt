@@ -3,8 +3,8 @@ use Rattle.std.proofs.Common.{◌≡◌, List, ◌∷◌, Option, sym, ap, ◌�
 use Rattle.js_lexer.specs.Token.{kind_of}
 use Rattle.js_parser.specs.declared.frame.Frame as code
 use Rattle.js_parser.specs.declared.frame.Frame.TheVariants.{InExpression}
-use Rattle.js_parser.specs.Machine.{Config, have_if, word_operand, begin_word}
-use Rattle.js_parser.specs.View.{frames, Turns}
+use Rattle.js_parser.specs.private.Machine.{Config, have_if, word_operand, begin_word}
+use Rattle.js_parser.specs.private.View.{frames, Turns}
 use Rattle.js_parser.proofs.Heads.{heads_none}
 use Rattle.js_parser.proofs.begin.begin_operand.Goals as goal
 

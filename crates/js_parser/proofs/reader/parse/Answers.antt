@@ -4,7 +4,7 @@ use Rattle.std.proofs.lemmas.Result.{err_from_is_err_and}
 use Rattle.js_tree.specs.Plain.{MakeFile}
 use Rattle.js_tree.specs.Tree.{plain_stmts}
 use Rattle.js_text.specs.Reads.{Reads}
-use Rattle.js_parser.specs.View.{mode, frames}
+use Rattle.js_parser.specs.private.View.{mode, frames}
 use Rattle.js_parser.proofs.Reading.{reaches_start, stands_at_start, stands_on, shrinks, ended_tree, ended_only, ended_low, refuses_text}
 use Rattle.js_parser.proofs.reader.parse.Goals as goal
 

@@ -1,5 +1,5 @@
 use Rattle.std.proofs.Common.{length}
-use Rattle.js_parser.specs.View.{mode, frames}
+use Rattle.js_parser.specs.private.View.{mode, frames}
 use Rattle.js_parser.proofs.Reading.{Stands}
 use Rattle.js_parser.proofs.reader.parse.Given as goal
 

@@ -1,7 +1,7 @@
 use Rattle.std.proofs.Common.{◌≡◌, length}
 use Rattle.js_lexer.specs.Token.{kind_of}
-use Rattle.js_parser.specs.Machine.{step_kind}
-use Rattle.js_parser.specs.View.{mode, frames, rank}
+use Rattle.js_parser.specs.private.Machine.{step_kind}
+use Rattle.js_parser.specs.private.View.{mode, frames, rank}
 use Rattle.js_parser.proofs.turn.step.Given as goal
 
 abbrev pub invariant-loop-next : goal.invariant-loop-next

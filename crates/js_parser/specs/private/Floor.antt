@@ -1,7 +1,7 @@
 -- How high the tree must at least be that a place of the machine leads to.
 use Rattle.std.specs.Prelude.{ℕ, ◌+◌, max, List, [], ◌∷◌}
 use Rattle.js_tree.specs.Height.{height_expr, height_exprs, height_stmt, height_stmts, height_declarators}
-use Rattle.js_parser.specs.Machine.{Frame, InBinary, InParentheses, InCall, InAssignment, InExpression, InTest, InInitializer, InIf, InElse, InWhile, InBlock, InBody, Want, Have, Begin, After, WantOpen, WantName, HaveName, Finished, Config, at}
+use Rattle.js_parser.specs.private.Machine.{Frame, InBinary, InParentheses, InCall, InAssignment, InExpression, InTest, InInitializer, InIf, InElse, InWhile, InBlock, InBody, Want, Have, Begin, After, WantOpen, WantName, HaveName, Finished, Config, at}
 
 -- the height of the frame's node, of the parts that stand there and of one more of height h
 abbrev pub lift : Frame → ℕ → ℕ

@@ -2,9 +2,9 @@
 use Rattle.std.specs.Prelude.{◌≡◌, ◌+◌, ℕ, List, [], ◌∷◌, reverse}
 use Rattle.js_parser.specs.declared.frame.Frame as code
 use Rattle.js_parser.specs.declared.stack.Held.{Held}
-use Rattle.js_parser.specs.Machine.{Frame, InInitializer, InBody}
-use Rattle.js_parser.specs.Floor.{lift, up}
-use Rattle.js_parser.specs.View.{frames}
+use Rattle.js_parser.specs.private.Machine.{Frame, InInitializer, InBody}
+use Rattle.js_parser.specs.private.Floor.{lift, up}
+use Rattle.js_parser.specs.private.View.{frames}
 
 -- how many levels a frame adds above its missing part: the two of a declaration and its declarator, none of a file
 abbrev pub levels : Frame → ℕ

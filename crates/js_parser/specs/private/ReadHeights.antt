@@ -5,7 +5,7 @@ use Rattle.js_tree.specs.declared.tree.Expr.{Expr}
 use Rattle.js_tree.specs.declared.tree.Stmt.{Stmt}
 use Rattle.js_tree.specs.Tree.{plain_declarators, plain_expr, plain_exprs, plain_stmt, plain_stmts}
 use Rattle.js_tree.specs.Height.{height_declarators, height_expr, height_exprs, height_stmt, height_stmts}
-use Rattle.js_parser.specs.Machine.{are_directives}
+use Rattle.js_parser.specs.private.Machine.{are_directives}
 
 abbrev pub expr_height : Expr → ℕ
 expr_height e = height_expr (plain_expr e)

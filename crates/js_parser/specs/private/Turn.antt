@@ -12,9 +12,9 @@ use Rattle.js_parser.specs.declared.reader.Progress.TheVariants as progress
 use Rattle.js_parser.specs.declared.refused.Refusal.{Refusal}
 use Rattle.js_parser.specs.declared.refused.Refusal.TheVariants as why
 use Rattle.js_parser.specs.declared.refused.Refused.{Refused}
-use Rattle.js_parser.specs.Floor.{up}
-use Rattle.js_parser.specs.Machine.{Frame, Mode, Want, Have, Begin, After, WantOpen, WantName, HaveName, Finished, Config, at, step}
-use Rattle.js_parser.specs.View.{mode}
+use Rattle.js_parser.specs.private.Floor.{up}
+use Rattle.js_parser.specs.private.Machine.{Frame, Mode, Want, Have, Begin, After, WantOpen, WantName, HaveName, Finished, Config, at, step}
+use Rattle.js_parser.specs.private.View.{mode}
 use Rattle.js_text.specs.Reads.{goal_of}
 
 -- how high the part is that stands there

@@ -17,7 +17,7 @@ use Rattle.js_parser.specs.declared.frame.Turn.TheVariants as turn
 use Rattle.js_parser.specs.declared.read.ReadExpression.{ReadExpression}
 use Rattle.js_parser.specs.declared.refused.Refusal.{Refusal}
 use Rattle.js_parser.specs.declared.refused.Refusal.TheVariants as why
-use Rattle.js_parser.specs.Machine.{Test, OfIf, OfWhile, Frame, InBinary, InParentheses, InCall, InAssignment, InExpression, InTest, InInitializer, InIf, InElse, InWhile, InBlock, InBody, Mode, Want, Have, Begin, After, WantOpen, WantName, HaveName, Finished, Config, at, Join, ByOperator, ByCall, ByAssignment, Apart, step_kind, grown, or_close, close_kind, have}
+use Rattle.js_parser.specs.private.Machine.{Test, OfIf, OfWhile, Frame, InBinary, InParentheses, InCall, InAssignment, InExpression, InTest, InInitializer, InIf, InElse, InWhile, InBlock, InBody, Mode, Want, Have, Begin, After, WantOpen, WantName, HaveName, Finished, Config, at, Join, ByOperator, ByCall, ByAssignment, Apart, step_kind, grown, or_close, close_kind, have}
 
 abbrev pub test : code_test.Test → Test
 test t.OfIf = OfIf
