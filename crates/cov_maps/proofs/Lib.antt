@@ -1,5 +1,4 @@
 pub mod AllNamed
-pub mod Data
 pub mod NodePlaces
 pub mod Placed
 pub mod Sample

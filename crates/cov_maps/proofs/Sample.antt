@@ -2,8 +2,7 @@
 use Rattle.std.proofs.Common.{◌≡◌, ℕ, List, [], ◌∷◌, Some, None, refl, codes}
 use Rattle.std.specs.Fmt.{digits}
 use Rattle.json.specs.Print.{escape_byte}
-use Rattle.serde_json.specs.Written.{compact_text}
-use Rattle.cov_object.specs.Json.{object_of}
+use Rattle.cov_object.specs.Json.{json_text}
 use Rattle.js_tree.specs.declared.operators.VariableKind.TheVariants as variable
 use Rattle.js_tree.specs.declared.place.Loc.{Loc}
 use Rattle.js_tree.specs.declared.place.Pos.{Pos}
@@ -11,7 +10,7 @@ use Rattle.js_tree.specs.Plain.{Expr, IdentifierReference, NumericLiteral, Call,
 use Rattle.js_tree.specs.declared.construct.BranchKind.TheVariants as branch_kind
 use Rattle.js_tree.specs.declared.construct.Construct.TheVariants as construct
 use Rattle.js_walk.specs.Constructs.{constructs_file}
-use Rattle.cov_maps.specs.Zero.{zero_data}
+use Rattle.cov_maps.specs.Zero.{zero_file}
 
 abbrev on_line_1 : ℕ → Pos
 on_line_1 column = record { line = 1; column = column }
@@ -36,7 +35,7 @@ pub counted_sample : constructs_file tree ≡ construct.Statement (part 8 9) ∷
 counted_sample = refl
 
 -- its map, as it is written
-pub sample : compact_text (object_of ((codes "a.js", zero_data (codes "a.js") (codes "H") (constructs_file tree)) ∷ []))
+pub sample : json_text (zero_file (codes "a.js") (codes "H") (constructs_file tree) ∷ [])
     ≡ codes "{\"a.js\":{\"b\":{\"0\":[0,0]},\"branchMap\":{\"0\":{\"loc\":{\"end\":{\"column\":27,\"line\":1},\"start\":{\"column\":11,\"line\":1}},\"locations\":[{\"end\":{\"column\":27,\"line\":1},\"start\":{\"column\":11,\"line\":1}},{\"end\":{},\"start\":{}}],\"type\":\"if\"}},\"f\":{},\"fnMap\":{},\"hash\":\"H\",\"path\":\"a.js\",\"s\":{\"0\":0,\"1\":0,\"2\":0},\"statementMap\":{\"0\":{\"end\":{\"column\":9,\"line\":1},\"start\":{\"column\":8,\"line\":1}},\"1\":{\"end\":{\"column\":27,\"line\":1},\"start\":{\"column\":11,\"line\":1}},\"2\":{\"end\":{\"column\":27,\"line\":1},\"start\":{\"column\":18,\"line\":1}}}}}"
 unfolding escape_byte digits
 sample = refl

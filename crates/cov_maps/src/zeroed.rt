@@ -1,12 +1,13 @@
-ghost use Rattle.std.specs.Prelude.{◌≡◌, map, Some, option_map, string_bytes, IfOk};
+ghost use Rattle.std.specs.Prelude.{◌≡◌, map, IfOk};
 ghost use Rattle.cov_maps.specs.Placed.{IsPlaced, IsPlacedIf, ArePathsPlaced, ArePlaced};
 ghost use Rattle.cov_maps.specs.Zero as spec;
-ghost use Rattle.cov_object.specs.Json.{file_data};
+ghost use Rattle.cov_object.specs.Location.{location_at};
 
 use cov_object::{
-    BranchCoverage, FileCoverage, FunctionCoverage, Location, PathCoverage, StatementCoverage,
+    BranchCoverage, Count, FileCoverage, FunctionCoverage, Location, Numbered, PathCoverage,
+    StatementCoverage,
 };
-use items::Memory;
+use items::{Items, Memory, Text};
 use js_tree::{BranchKind, Construct, Loc};
 use std::alloc::Global;
 
@@ -20,33 +21,29 @@ pub fn zero(
     list: &[Construct],
 ) -> Result<FileCoverage, Memory>
     requires lines { ArePlaced list.now }
-    ensures path { IfOk result (λ file. string_bytes file.path ≡ path.now) }
-    ensures hash { IfOk result (λ file. option_map string_bytes file.hash ≡ Some hash.now) }
-    ensures statements { IfOk result (λ file. map spec.statement_of file.statements.items ≡ spec.zero_statements list.now) }
-    ensures functions { IfOk result (λ file. map spec.function_of file.functions.items ≡ spec.zero_functions list.now) }
-    ensures branches { IfOk result (λ file. map spec.branch_of file.branches.items ≡ spec.zero_branches list.now) }
-    ensures data { IfOk result (λ file. file_data file ≡ spec.zero_data path.now hash.now list.now) }
+    ensures { IfOk result (λ file. file ≡ spec.zero_file path.now hash.now list.now) }
 {
     Ok(FileCoverage {
-        path: String::from_str(alloc, path)?,
-        hash: Some(String::from_str(alloc, hash)?),
-        statements: statements_in(alloc, list)?,
-        functions: functions_in(alloc, list)?,
-        branches: branches_in(alloc, list)?,
+        path: Text::from_str(alloc, path)?,
+        hash: Some(Text::from_str(alloc, hash)?),
+        input_source_map: None,
+        statements: Numbered::from_vec(alloc, statements_in(alloc, list)?)?,
+        functions: Numbered::from_vec(alloc, functions_in(alloc, list)?)?,
+        branches: Numbered::from_vec(alloc, branches_in(alloc, list)?)?,
     })
 }
 
 // The statements in a list, with the count 0.
 fn statements_in(alloc: Global, list: &[Construct]) -> Result<Vec<StatementCoverage>, Memory>
     requires { ArePlaced list.now }
-    ensures { IfOk result (λ statements. map spec.statement_of statements.items ≡ spec.zero_statements list.now) }
+    ensures { IfOk result (λ statements. statements.items ≡ spec.zero_statements list.now) }
 {
     let mut statements = Vec::new(alloc);
     for construct in list {
         if let Construct::Statement { loc } = construct {
             statements.push(StatementCoverage {
                 location: location_at(*loc),
-                count: 0,
+                count: Count::new(0),
             })?;
         }
     }
@@ -56,16 +53,16 @@ fn statements_in(alloc: Global, list: &[Construct]) -> Result<Vec<StatementCover
 // The functions in a list, with the count 0.
 fn functions_in(alloc: Global, list: &[Construct]) -> Result<Vec<FunctionCoverage>, Memory>
     requires { ArePlaced list.now }
-    ensures { IfOk result (λ functions. map spec.function_of functions.items ≡ spec.zero_functions list.now) }
+    ensures { IfOk result (λ functions. functions.items ≡ spec.zero_functions list.now) }
 {
     let mut functions = Vec::new(alloc);
     for construct in list {
         if let Construct::Function { name, decl, loc } = construct {
             functions.push(FunctionCoverage {
-                name: String::from_str(alloc, name.as_str())?,
+                name: Text::from_str(alloc, name.as_str())?,
                 declaration: location_at(*decl),
                 location: location_at(*loc),
-                count: 0,
+                count: Count::new(0),
             })?;
         }
     }
@@ -75,13 +72,13 @@ fn functions_in(alloc: Global, list: &[Construct]) -> Result<Vec<FunctionCoverag
 // The branches in a list, each path with the count 0.
 fn branches_in(alloc: Global, list: &[Construct]) -> Result<Vec<BranchCoverage>, Memory>
     requires { ArePlaced list.now }
-    ensures { IfOk result (λ branches. map spec.branch_of branches.items ≡ spec.zero_branches list.now) }
+    ensures { IfOk result (λ branches. branches.items ≡ spec.zero_branches list.now) }
 {
     let mut branches = Vec::new(alloc);
     for construct in list {
         if let Construct::Branch { kind, loc, paths } = construct {
             branches.push(BranchCoverage {
-                kind: String::from_str(alloc, spelling(*kind))?,
+                kind: Text::from_str(alloc, spelling(*kind))?,
                 location: location_at(*loc),
                 paths: paths_of(alloc, paths.as_slice())?,
             })?;
@@ -91,15 +88,15 @@ fn branches_in(alloc: Global, list: &[Construct]) -> Result<Vec<BranchCoverage>,
 }
 
 // The paths of a branch, with the count 0.
-fn paths_of(alloc: Global, places: &[Option<Loc>]) -> Result<Vec<PathCoverage>, Memory>
+fn paths_of(alloc: Global, places: &[Option<Loc>]) -> Result<Items<PathCoverage>, Memory>
     requires { ArePathsPlaced places.now }
-    ensures { IfOk result (λ paths. map spec.path_of paths.items ≡ map spec.zero_path places.now) }
+    ensures { IfOk result (λ paths. paths ≡ map spec.zero_path places.now) }
 {
-    let mut paths = Vec::new(alloc);
+    let mut paths = Items::new(alloc);
     for place in places {
         paths.push(PathCoverage {
             location: location_if(*place),
-            count: 0,
+            count: Count::new(0),
         })?;
     }
     Ok(paths)
@@ -120,14 +117,14 @@ fn spelling(kind: BranchKind) -> &'static str
 
 fn location_at(loc: Loc) -> Location
     requires { IsPlaced loc }
-    ensures { spec.part_of result ≡ spec.part_at loc }
+    ensures { result ≡ location_at loc }
 {
     Location::from_loc(loc)
 }
 
 fn location_if(loc: Option<Loc>) -> Location
     requires { IsPlacedIf loc }
-    ensures { spec.part_of result ≡ spec.path_part loc }
+    ensures { result ≡ spec.location_if loc }
 {
     match loc {
         None => Location::nowhere(),

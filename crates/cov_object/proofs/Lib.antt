@@ -1,4 +1,5 @@
 pub mod Files
+pub mod Numbers
 pub mod OrderLemmas
 pub mod PieceLemmas
 pub mod Plain

@@ -1,5 +1,5 @@
 -- The JSON of a branch has no float.
-use Rattle.std.proofs.Common.{◌≡◌, ℕ, List, [], ◌∷◌, map, fold, Option, Some, None, Bool, true, false, true≢false, ◌||◌, refl, ap, ◌∙◌, string_bytes, codes}
+use Rattle.std.proofs.Common.{◌≡◌, ℕ, List, [], ◌∷◌, map, fold, Option, Some, None, Bool, true, false, true≢false, ◌||◌, refl, ap, ◌∙◌, codes}
 use Rattle.std.specs.Ordering.{nat_cmp, match_ordering}
 use Rattle.std.specs.declared.cmp.Ordering.{Ordering}
 use Rattle.std.specs.declared.cmp.Ordering.TheVariants.{Less, Equal, Greater}
@@ -78,10 +78,10 @@ location-plain location =
 
 pub branch-plain : (branch : BranchCoverage) → IsPlain (branch_data branch)
 branch-plain branch =
-    let locations : List Data = map (λ path. location_data path.location) branch.paths.items in
-    object_of-plain ((codes "loc", location_data branch.location) ∷ (codes "type", string (string_bytes branch.kind)) ∷ (codes "locations", array (items_of locations)) ∷ [])
-    (location-plain branch.location, (refl, (items-plain locations (map-plain _ branch.paths.items (λ path. location-plain path.location)), tt)))
+    let locations : List Data = map (λ path. location_data path.location) branch.paths in
+    object_of-plain ((codes "loc", location_data branch.location) ∷ (codes "type", string branch.kind) ∷ (codes "locations", array (items_of locations)) ∷ [])
+    (location-plain branch.location, (refl, (items-plain locations (map-plain _ branch.paths (λ path. location-plain path.location)), tt)))
 
 pub path_counts-plain : (branch : BranchCoverage) → IsPlain (path_counts_data branch)
 path_counts-plain branch =
-    items-plain (map (λ path. count_data path.count) branch.paths.items) (map-plain (λ path. count_data path.count) branch.paths.items (λ path. refl))
+    items-plain (map (λ path. count_data path.count) branch.paths) (map-plain (λ path. count_data path.count) branch.paths (λ path. refl))

@@ -10,22 +10,22 @@ use Rattle.cov_object.specs.declared.file.FileCoverage.{FileCoverage}
 abbrev pub placed : FileCoverage → List FileCoverage → List FileCoverage
 placed file [] = file ∷ []
 placed file (other ∷ rest) =
-    match_ordering (slice_cmp nat_cmp (string_bytes file.path) (string_bytes other.path))
+    match_ordering (slice_cmp nat_cmp file.path other.path)
     (file ∷ other ∷ rest) (file ∷ rest) (other ∷ placed file rest)
 
 -- the first file with this path
 abbrev pub found : List ℕ → List FileCoverage → Option FileCoverage
 found path [] = None
 found path (file ∷ rest) =
-    match_ordering (slice_cmp nat_cmp path (string_bytes file.path)) (found path rest) (Some file) (found path rest)
+    match_ordering (slice_cmp nat_cmp path file.path) (found path rest) (Some file) (found path rest)
 
 -- each path's bytes come before those of every later path
 abbrev pub AreInOrder : List FileCoverage → Type 0
-AreInOrder files = IsStrictlySortedBy (slice_cmp nat_cmp) (map (λ file. string_bytes file.path) files)
+AreInOrder files = IsStrictlySortedBy (slice_cmp nat_cmp) (map (λ file. file.path) files)
 
 -- ---- for private facts
 
 -- each file stands under its own path
 abbrev pub AreUnderTheirPaths : List (String Global × FileCoverage) → Type 0
 AreUnderTheirPaths [] = Unit {0}
-AreUnderTheirPaths (entry ∷ rest) = (string_bytes entry.0 ≡ string_bytes entry.1.path) × AreUnderTheirPaths rest
+AreUnderTheirPaths (entry ∷ rest) = (string_bytes entry.0 ≡ entry.1.path) × AreUnderTheirPaths rest

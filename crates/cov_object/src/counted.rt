@@ -37,7 +37,7 @@ impl Counted for StatementCoverage {
 
     fn push(&self, alloc: Global, out: &mut Vec<u8>, part: Part) -> Result<(), Memory> {
         match part {
-            Part::Counts => push_value(alloc, out, &Value::from(self.count)),
+            Part::Counts => push_value(alloc, out, &Value::from(self.count.get())),
             Part::Description => push_value(alloc, out, &location_value(alloc, self.location)?),
         }
     }
@@ -48,7 +48,7 @@ impl Counted for FunctionCoverage {
 
     fn push(&self, alloc: Global, out: &mut Vec<u8>, part: Part) -> Result<(), Memory> {
         match part {
-            Part::Counts => push_value(alloc, out, &Value::from(self.count)),
+            Part::Counts => push_value(alloc, out, &Value::from(self.count.get())),
             Part::Description => push_value(alloc, out, &function_value(alloc, self)?),
         }
     }
@@ -59,7 +59,11 @@ impl Counted for BranchCoverage {
 
     fn push(&self, alloc: Global, out: &mut Vec<u8>, part: Part) -> Result<(), Memory> {
         match part {
-            Part::Counts => push_value(alloc, out, &Value::Array(path_counts(alloc, &self.paths)?)),
+            Part::Counts => push_value(
+                alloc,
+                out,
+                &Value::Array(path_counts(alloc, self.paths.as_slice())?),
+            ),
             Part::Description => push_value(alloc, out, &branch_value(alloc, self)?),
         }
     }

@@ -1,29 +1,29 @@
-ghost use Rattle.std.specs.Prelude.{◌<◌, ◌^◌};
-
 use crate::location::Location;
+use crate::number::Count;
+use crate::numbered::Numbered;
+use crate::source_map_text::SourceMapText;
+use items::{Items, Text};
 
 /// A statement, and how often it ran.
 #[derive(Debug, Drop)]
 pub struct StatementCoverage {
     /// Where it stands.
     pub location: Location,
-    /// How often it ran: a number below 2^53.
-    pub count: u64,
-    ghost exact: { count < 2 ^ 53 },
+    /// How often it ran.
+    pub count: Count,
 }
 
 /// A function, and how often its body was entered.
 #[derive(Debug, Drop)]
 pub struct FunctionCoverage {
     /// Its name, or one made up for it.
-    pub name: String,
+    pub name: Text,
     /// Where its name stands.
     pub declaration: Location,
     /// Where its body stands.
     pub location: Location,
-    /// How often its body was entered: a number below 2^53.
-    pub count: u64,
-    ghost exact: { count < 2 ^ 53 },
+    /// How often its body was entered.
+    pub count: Count,
 }
 
 /// One path of a branch, and how often it was taken.
@@ -31,34 +31,34 @@ pub struct FunctionCoverage {
 pub struct PathCoverage {
     /// Where it stands: nowhere where it is an `else` that is missing.
     pub location: Location,
-    /// How often it was taken: a number below 2^53.
-    pub count: u64,
-    ghost exact: { count < 2 ^ 53 },
+    /// How often it was taken.
+    pub count: Count,
 }
 
 /// A branch, and how often each of its paths was taken.
 #[derive(Debug, Drop)]
 pub struct BranchCoverage {
     /// What kind of branch it is, as `if` or `switch`.
-    pub kind: String,
+    pub kind: Text,
     /// Where it stands.
     pub location: Location,
     /// Its paths, in the order in which they stand.
-    pub paths: Vec<PathCoverage>,
+    pub paths: Items<PathCoverage>,
 }
 
-/// The coverage of one file. Statements, functions and branches are each numbered from 0 as they
-/// stand here.
+/// The coverage of one file. Statements, functions and branches are each numbered by themselves.
 #[derive(Debug, Drop)]
 pub struct FileCoverage {
     /// The file's path.
-    pub path: String,
+    pub path: Text,
     /// The hash of the file's bytes, in hexadecimal, where one is known.
-    pub hash: Option<String>,
+    pub hash: Option<Text>,
+    /// The map from the file to the sources that it was made from, where there is one.
+    pub input_source_map: Option<SourceMapText>,
     /// Its statements.
-    pub statements: Vec<StatementCoverage>,
+    pub statements: Numbered<StatementCoverage>,
     /// Its functions.
-    pub functions: Vec<FunctionCoverage>,
+    pub functions: Numbered<FunctionCoverage>,
     /// Its branches.
-    pub branches: Vec<BranchCoverage>,
+    pub branches: Numbered<BranchCoverage>,
 }

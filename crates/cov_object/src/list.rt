@@ -25,7 +25,7 @@ pub(crate) fn path_counts(alloc: Global, paths: &[PathCoverage]) -> Result<Vec<V
 {
     let mut values = Vec::new(alloc);
     for path in paths {
-        values.push(Value::from(path.count))?;
+        values.push(Value::from(path.count.get()))?;
     }
     Ok(values)
 }

@@ -1,15 +1,16 @@
-ghost use Rattle.std.specs.Prelude.{◌≡◌, ◌<◌, Some, None, IsSome, IfSome};
+ghost use Rattle.std.specs.Prelude.{◌≡◌, ◌<◌};
+ghost use Rattle.cov_object.specs.Location.{location_at, nowhere};
 
+use crate::number::Line;
 use js_tree::Loc;
 
 /// A place in a source text.
 #[derive(Clone, Copy, Debug)]
 pub struct Position {
-    /// The line, from 1.
-    pub line: u32,
+    /// The line.
+    pub line: Line,
     /// The column, from 0, in UTF-16 units; `None` is the line's end.
     pub column: Option<u32>,
-    ghost from_one: { 0 < line },
 }
 
 /// A part of a source text, up to and without its end. A part that stands nowhere, as the `else`
@@ -27,18 +28,15 @@ impl Location {
     pub fn from_loc(loc: Loc) -> Location
         requires start_line { 0 < loc.start.line }
         requires end_line { 0 < loc.end.line }
-        ensures start { IfSome result.start (λ place. (place.line ≡ loc.start.line) × (place.column ≡ Some loc.start.column)) }
-        ensures has_start { IsSome result.start }
-        ensures end { IfSome result.end (λ place. (place.line ≡ loc.end.line) × (place.column ≡ Some loc.end.column)) }
-        ensures has_end { IsSome result.end }
+        ensures { result ≡ location_at loc }
     {
         Location {
             start: Some(Position {
-                line: loc.start.line,
+                line: Line::new(loc.start.line),
                 column: Some(loc.start.column),
             }),
             end: Some(Position {
-                line: loc.end.line,
+                line: Line::new(loc.end.line),
                 column: Some(loc.end.column),
             }),
         }
@@ -46,8 +44,7 @@ impl Location {
 
     /// No part at all.
     pub fn nowhere() -> Location
-        ensures start { result.start ≡ None }
-        ensures end { result.end ≡ None }
+        ensures { result ≡ nowhere }
     {
         Location {
             start: None,

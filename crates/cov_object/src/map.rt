@@ -1,4 +1,4 @@
-ghost use Rattle.std.specs.Prelude.{◌≡◌, [], option_map, string_bytes, IfOk, OnOk, OnErr};
+ghost use Rattle.std.specs.Prelude.{◌≡◌, [], option_map, IfOk, OnOk, OnErr};
 ghost use Rattle.cov_object.specs.Files.{placed, found, AreInOrder};
 
 use crate::file::FileCoverage;
@@ -14,6 +14,7 @@ use std::marker::Model;
 pub struct CoverageMap {
     // each file under its path
     files: BTreeMap<String, FileCoverage>,
+    alloc: Global,
 }
 
 impl Model for CoverageMap {
@@ -37,6 +38,7 @@ impl CoverageMap {
     {
         CoverageMap {
             files: BTreeMap::new(alloc),
+            alloc,
         }
     }
 
@@ -44,10 +46,10 @@ impl CoverageMap {
     /// is handed back. On want of memory the map stays as it was.
     pub fn insert(&mut self, file: FileCoverage) -> Result<Option<FileCoverage>, Memory>
         ensures placed { OnOk result (self.new ≡ placed file self.old) }
-        ensures replaced { IfOk result (λ old. old ≡ found (string_bytes file.path) self.old) }
+        ensures replaced { IfOk result (λ old. old ≡ found (file.path) self.old) }
         ensures unchanged { OnErr result (self.new ≡ self.old) }
     {
-        let path = file.path.clone()?;
+        let path = String::from_str(self.alloc, file.path.as_str())?;
         Ok(self.files.insert(path, file)?)
     }
 

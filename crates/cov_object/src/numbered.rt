@@ -1,54 +1,71 @@
-ghost use Rattle.std.specs.Prelude.{◌≡◌, ◌<◌, ◌++◌, true, length, map, OnOk};
-ghost use Rattle.std.specs.List.{All};
-ghost use Rattle.serde_json.specs.Data.{object};
-ghost use Rattle.serde_json.specs.Written.{compact_text};
-ghost use Rattle.cov_object.specs.Json.{numbered};
-ghost use Rattle.cov_object.specs.Order.{members_at};
-ghost use Rattle.cov_object.specs.Piece.{member_text};
+ghost use Rattle.std.specs.Prelude.{◌≡◌, [], IfOk};
+ghost use Rattle.std.specs.List.{enumerate_from};
+ghost use Rattle.cov_object.specs.Numbered.{Ascends};
 
-use crate::counted::{Counted, Part};
-use crate::order::ids_in_order;
-use crate::piece::{push_id, push_key};
 use items::Memory;
 use std::alloc::Global;
+use std::collections::BTreeMap;
+use std::marker::Model;
 
-// Writes two members at the end of `out`: the counts of the things, and their descriptions.
-pub(crate) fn push_counted<T: Counted>(
-    alloc: Global,
-    out: &mut Vec<u8>,
-    later: bool,
-    counts: &str,
-    descriptions: &str,
-    things: &[T],
-) -> Result<(), Memory>
-    ensures { OnOk result (out.new.items ≡ out.old.items
-        ++ (member_text later counts.now (numbered (map (T.json Part.Counts) things.now))
-        ++ member_text true descriptions.now (numbered (map (T.json Part.Description) things.now)))) }
-{
-    let ids = ids_in_order(alloc, things.len())?;
-    push_key(alloc, out, later, counts)?;
-    push_numbered(alloc, out, Part::Counts, &ids, things)?;
-    push_key(alloc, out, true, descriptions)?;
-    push_numbered(alloc, out, Part::Description, &ids, things)
+/// Things that are numbered: each has an id of its own, and they stand in the order of their ids.
+/// Ids may be left out. Contracts see it as the list of the ids, each beside its thing.
+#[derive(Debug, Drop)]
+pub struct Numbered<T> {
+    things: Vec<(u64, T)>,
 }
 
-// Writes an object of a part of each thing under its number, the numbers as they stand in `ids`.
-fn push_numbered<T: Counted>(
-    alloc: Global,
-    out: &mut Vec<u8>,
-    part: Part,
-    ids: &[usize],
-    things: &[T],
-) -> Result<(), Memory>
-    requires { All (λ id. id < length things.now) ids.now }
-    ensures { OnOk result (out.new.items
-        ≡ out.old.items ++ compact_text (object (members_at (map (T.json part) things.now) ids.now))) }
-{
-    out.push(b'{')?;
-    for (place, id) in ids.iter().enumerate() {
-        push_id(alloc, out, place > 0, *id)?;
-        things[*id].push(alloc, out, part)?;
+impl<T> Model for Numbered<T> {
+    ghost use Rattle.std.specs.Prelude.{List, ℕ};
+    ghost use Rattle.std.specs.Coded.{coded_list, coded×, coded_ℕ};
+    ghost use Rattle.cov_object.specs.Numbered.{Ascends};
+
+    ghost Value = { List (ℕ × T) };
+
+    ghost coded = { coded_list (coded× coded_ℕ T.code) };
+
+    ghost view = { λ list. list.things.items };
+
+    ghost invariant = { λ list. Ascends list.things.items };
+}
+
+impl<T> Numbered<T> {
+    /// No things, which takes no memory.
+    pub fn new(alloc: Global) -> Numbered<T>
+        ensures { result ≡ [] }
+    {
+        Numbered {
+            things: Vec::new(alloc),
+        }
     }
-    out.push(b'}')?;
-    Ok(())
+
+    /// The things, each beside its id, lent.
+    pub fn as_slice(&self) -> &[(u64, T)]
+        ensures value { result.now ≡ self.now }
+        ensures order { Ascends self.now }
+    {
+        self.things.as_slice()
+    }
+}
+
+impl<T: Drop> Numbered<T> {
+    /// The things of a list, numbered from 0 as they stand there.
+    pub fn from_vec(alloc: Global, list: Vec<T>) -> Result<Numbered<T>, Memory>
+        ensures { IfOk result (λ things. things ≡ enumerate_from 0 list.items) }
+    {
+        let mut things = Vec::new(alloc);
+        for thing in list {
+            let id = things.len() as u64;
+            things.push((id, thing))?;
+        }
+        Ok(Numbered { things })
+    }
+
+    /// The things of a map, each under the id that it has there.
+    pub fn from_map(alloc: Global, map: BTreeMap<u64, T>) -> Result<Numbered<T>, Memory>
+        ensures { IfOk result (λ things. things ≡ map.entries) }
+    {
+        Ok(Numbered {
+            things: map.into_iter().collect(alloc)?,
+        })
+    }
 }

@@ -1,19 +1,20 @@
-ghost use Rattle.std.specs.Prelude.{◌<◌, IfOk};
-ghost use Rattle.std.specs.List.{All};
-ghost use Rattle.cov_object.specs.Order.{IsKeyOrder};
+ghost use Rattle.std.specs.Prelude.{◌≡◌, map, string_bytes, IfOk};
+ghost use Rattle.cov_object.specs.Order.{in_key_order};
 
 use items::Memory;
 use std::alloc::Global;
 use std::collections::BTreeMap;
 
-// The numbers below `count`, in the order of their digits' bytes: 0, 1, 10, 11, 2.
-pub(crate) fn ids_in_order(alloc: Global, count: usize) -> Result<Vec<usize>, Memory>
-    ensures order { IfOk result (λ ids. IsKeyOrder count ids.items) }
-    ensures in_range { IfOk result (λ ids. All (λ id. id < count) ids.items) }
+// The things, each beside its id in decimal, in the byte order of the digits: 0, 1, 10, 11, 2.
+pub(crate) fn in_digit_order<T>(
+    alloc: Global,
+    things: &[(u64, T)],
+) -> Result<Vec<(String, &T)>, Memory>
+    ensures { IfOk result (λ sorted. map (λ thing. (string_bytes thing.0, thing.1.now)) sorted.items ≡ in_key_order things.now) }
 {
-    let mut ids = BTreeMap::new(alloc);
-    for id in 0..count {
-        ids.insert(format!(in alloc; "{id}")?, id)?;
+    let mut sorted = BTreeMap::new(alloc);
+    for (id, thing) in things {
+        sorted.insert(format!(in alloc; "{id}")?, thing)?;
     }
-    ids.into_values().collect(alloc)
+    sorted.into_iter().collect(alloc)
 }

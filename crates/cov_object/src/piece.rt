@@ -1,4 +1,4 @@
-ghost use Rattle.std.specs.Prelude.{◌≡◌, ◌++◌, true, false, decimal, OnOk};
+ghost use Rattle.std.specs.Prelude.{◌≡◌, ◌++◌, true, false, OnOk};
 ghost use Rattle.serde_json.specs.Data.{string};
 ghost use Rattle.serde_json.specs.View.{view};
 ghost use Rattle.serde_json.specs.Written.{compact_text, has_float};
@@ -41,19 +41,6 @@ pub(crate) fn push_key(
     push_string(alloc, out, key)?;
     out.push(b':')?;
     Ok(())
-}
-
-// Writes what begins the member of a number: the key is the number in decimal.
-pub(crate) fn push_id(
-    alloc: Global,
-    out: &mut Vec<u8>,
-    later: bool,
-    id: usize,
-) -> Result<(), Memory>
-    ensures { OnOk result (out.new.items ≡ out.old.items ++ key_text later (decimal id)) }
-{
-    let digits = format!(in alloc; "{id}")?;
-    push_key(alloc, out, later, digits.as_str())
 }
 
 // Writes a member after another: its value is a text.

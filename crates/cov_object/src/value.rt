@@ -14,7 +14,7 @@ pub(crate) fn position_value(alloc: Global, place: Option<Position>) -> Result<V
     ensures { IfOk result (λ value. view value ≡ spec.position_data place) }
 {
     match place {
-        Some(place) => Ok(json!(in alloc; {"line": place.line, "column": place.column})?),
+        Some(place) => Ok(json!(in alloc; {"line": place.line.get(), "column": place.column})?),
         None => Ok(json!(in alloc; {})?),
     }
 }
@@ -54,7 +54,7 @@ pub(crate) fn branch_value(alloc: Global, branch: &BranchCoverage) -> Result<Val
     ensures { IfOk result (λ value. view value ≡ spec.branch_data branch.now) }
 {
     let location = location_value(alloc, branch.location)?;
-    let locations = path_locations(alloc, &branch.paths)?;
+    let locations = path_locations(alloc, branch.paths.as_slice())?;
     let mut members = Map::new(alloc);
     put(&mut members, alloc, "loc", location)?;
     put(

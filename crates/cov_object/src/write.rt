@@ -1,13 +1,14 @@
 ghost use Rattle.std.specs.Prelude.{◌≡◌, ◌++◌, IfOk, OnOk};
 ghost use Rattle.serde_json.specs.Written.{compact_text};
 ghost use Rattle.cov_object.specs.Json as spec;
-ghost use Rattle.cov_object.specs.Piece.{hash_text};
+ghost use Rattle.cov_object.specs.Piece.{hash_text, source_map_text};
 
 use crate::file::FileCoverage;
 use crate::map::CoverageMap;
-use crate::numbered::push_counted;
+use crate::objects::push_counted;
 use crate::piece::{push_key, push_text};
-use items::Memory;
+use crate::source_map_text::SourceMapText;
+use items::{Memory, Text};
 use std::alloc::Global;
 
 /// The JSON of a coverage map, with no space: an object from each file's path to its coverage, the
@@ -33,21 +34,53 @@ fn push_file(alloc: Global, out: &mut Vec<u8>, file: &FileCoverage) -> Result<()
     ensures { OnOk result (out.new.items ≡ out.old.items ++ compact_text (spec.file_data file.now)) }
 {
     out.push(b'{')?;
-    push_counted(alloc, out, false, "b", "branchMap", &file.branches)?;
-    push_counted(alloc, out, true, "f", "fnMap", &file.functions)?;
+    push_counted(
+        alloc,
+        out,
+        false,
+        "b",
+        "branchMap",
+        file.branches.as_slice(),
+    )?;
+    push_counted(alloc, out, true, "f", "fnMap", file.functions.as_slice())?;
     push_hash(alloc, out, &file.hash)?;
+    push_source_map(alloc, out, &file.input_source_map)?;
     push_text(alloc, out, "path", file.path.as_str())?;
-    push_counted(alloc, out, true, "s", "statementMap", &file.statements)?;
+    push_counted(
+        alloc,
+        out,
+        true,
+        "s",
+        "statementMap",
+        file.statements.as_slice(),
+    )?;
     out.push(b'}')?;
     Ok(())
 }
 
 // Writes the member `hash` after another, where there is a hash.
-fn push_hash(alloc: Global, out: &mut Vec<u8>, hash: &Option<String>) -> Result<(), Memory>
+fn push_hash(alloc: Global, out: &mut Vec<u8>, hash: &Option<Text>) -> Result<(), Memory>
     ensures { OnOk result (out.new.items ≡ out.old.items ++ hash_text hash.now) }
 {
     match hash {
         Some(hash) => push_text(alloc, out, "hash", hash.as_str()),
+        None => Ok(()),
+    }
+}
+
+// Writes the member `inputSourceMap` after another, where there is a map.
+fn push_source_map(
+    alloc: Global,
+    out: &mut Vec<u8>,
+    map: &Option<SourceMapText>,
+) -> Result<(), Memory>
+    ensures { OnOk result (out.new.items ≡ out.old.items ++ source_map_text map.now) }
+{
+    match map {
+        Some(map) => {
+            push_key(alloc, out, true, "inputSourceMap")?;
+            out.extend_from_slice(map.as_str().as_bytes())
+        }
         None => Ok(()),
     }
 }

@@ -2,8 +2,6 @@
 use Rattle.std.specs.Prelude.{◌≡◌, ℕ, ◌<◌, ◌≤◌, ◌⊎◌, List, [], ◌∷◌, ◌++◌, length, take, Option, None, Some, IfSome, IsSome}
 use Rattle.std.specs.Str.{IsUtf8}
 use Rattle.std.specs.Str.Lossy.{utf8_valid_len}
-use Rattle.serde_json.specs.Data.{Data}
-use Rattle.serde_json.specs.Written.{compact_text}
 use Rattle.js_tree.specs.declared.place.Pos.{Pos}
 use Rattle.js_tree.specs.Plain.{File}
 use Rattle.js_tree.specs.Height.{height_file}
@@ -19,8 +17,8 @@ use Rattle.js_meaning.specs.World.{PlainRun}
 use Rattle.cov_base.specs.Store.{Held}
 use Rattle.cov_base.specs.Sink.{after_more, TakesPrefix}
 use Rattle.cov_base.specs.Causes.{Rose}
-use Rattle.cov_object.specs.Json.{object_of}
-use Rattle.cov_maps.specs.Zero.{zero_data}
+use Rattle.cov_object.specs.Json.{json_text}
+use Rattle.cov_maps.specs.Zero.{zero_file}
 use Rattle.cov_words.specs.Words.{Request, Maps, Exec, command_of}
 use Rattle.cov_run.specs.Exec.{run_of}
 use Rattle.cov_tool.specs.Hash.{hash_text}
@@ -41,13 +39,9 @@ abbrev pub turns_of : Request → ℕ
 turns_of (Maps path) = 0
 turns_of (Exec turns path) = turns
 
--- the JSON of a coverage map with one file alone
-abbrev pub map_text : List ℕ → Data → List ℕ
-map_text path coverage = compact_text (object_of ((path, coverage) ∷ []))
-
 -- the zero FileCoverage of a file and LF
 abbrev pub maps_text : List ℕ → List ℕ → File → List ℕ
-maps_text path bytes tree = map_text path (zero_data path (hash_text bytes) (constructs_file tree)) ++ 0x0A ∷ []
+maps_text path bytes tree = json_text (zero_file path (hash_text bytes) (constructs_file tree) ∷ []) ++ 0x0A ∷ []
 
 -- the answer of a run: what it printed, and how it ended
 abbrev pub answer_of_run : PlainRun → Answer

@@ -11,7 +11,7 @@ loop-file-preserved c =
     let file = c.in-Some.file.now in
     let more = now_more c.loop-file.yielded c.in-Some.file in
     record {
-      text = one_more files file c.loop-file.later _ _ _ so_far.text so_far.comma (c.in_ok-push_key.ensures ∙ ap (λ path. c.loop-file.out.items ++ key_text c.loop-file.later path) c.as_str.ensures.value) c.in_ok-push_file.ensures ∙ ap (λ all. 123 ∷ begun false all) (sym more);
+      text = one_more files file c.loop-file.later _ _ _ so_far.text so_far.comma (c.in_ok-push_key.ensures ∙ ap (λ path. c.loop-file.out.items ++ key_text c.loop-file.later path) c.as_str.ensures) c.in_ok-push_file.ensures ∙ ap (λ all. 123 ∷ begun false all) (sym more);
       comma = sym (ap (is_later false) more ∙ is_later-more false files file);
     }
 

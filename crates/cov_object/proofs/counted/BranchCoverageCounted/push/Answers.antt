@@ -12,7 +12,7 @@ pub returns-in_ok-path_counts-in-Counts : goal.returns-in_ok-path_counts-in-Coun
 returns-in_ok-path_counts-in-Counts c =
     let branch = c.args.self.now in
     let counts = c.in_ok-path_counts-in-Counts in
-    written c.push_value.result _ _ _ _ _ c.push_value.ensures (view-Array counts.field-0 ∙ ap (λ values. array (items_of values)) (counts.ensures ∙ ap (map (λ path. count_data path.count)) c.deref.ensures.value))
+    written c.push_value.result _ _ _ _ _ c.push_value.ensures (view-Array counts.field-0 ∙ ap (λ values. array (items_of values)) (counts.ensures ∙ ap (map (λ path. count_data path.count)) c.as_slice.ensures))
     (path_counts-plain branch) (ap (λ part. part_of part (path_counts_data branch) (branch_data branch)) c.in-Counts.is)
 
 pub returns-in_ok-branch_value-in-Description : goal.returns-in_ok-branch_value-in-Description

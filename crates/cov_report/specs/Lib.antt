@@ -1,0 +1,4 @@
+pub mod JsonSummary
+pub mod Lcov
+pub mod Percent
+pub mod Piece

@@ -1,0 +1,4 @@
+pub mod Lines
+pub mod Shortfall
+pub mod Sums
+pub mod Totals
