@@ -1,8 +1,7 @@
--- What was read stands somewhere.
-use Rattle.std.proofs.Common.{◌∙◌, ap}
+use Rattle.std.proofs.Common.{sym, subst}
 use Rattle.cov_maps.specs.Construct.{plain_constructs}
-use Rattle.cov_tool.proofs.Placed.{placed}
+use Rattle.cov_maps.specs.Placed.{ArePlaced}
 use Rattle.cov_tool.proofs.maps.text_for.Goals as goal
 
 pub zero-requires : goal.zero-requires
-zero-requires c = record { lines = placed c.requires (ap plain_constructs c.as_slice.ensures.value ∙ c.in_ok-list.ensures) }
+zero-requires c = record { lines = subst (λ list. ArePlaced (plain_constructs list)) (sym c.as_slice.ensures.value) c.requires }
