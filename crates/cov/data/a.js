@@ -1,0 +1,5 @@
+var i = 0;
+while (true) {
+    print(i);
+    i = i + 1;
+}

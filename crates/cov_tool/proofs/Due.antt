@@ -10,8 +10,8 @@ use Rattle.cov_words.specs.Words.{Request, command_of, request_of}
 use Rattle.cov_words.specs.declared.words.Command.{Command}
 use Rattle.cov_tool.specs.Line as said
 use Rattle.cov_tool.specs.Program as P
-use Rattle.cov_tool.specs.Program.{Ends, IsDue, ExactlyWhere, IsOutput, PrintsAll, PrintsOutput, IsMessage, IsLine, IsUsage, Says, SaysLine, SaysAtMost, answer_of, file_of, said_of, status_of_end}
-use Rattle.cov_tool.specs.Cause.{Holds, HasOnly, IsCause, IsAnswered, message_at, status_of, PrintsAtMost, nothing, some}
+use Rattle.cov_tool.specs.Program.{Ends, IsDue, ExactlyWhere, IsOutput, PrintsAll, PrintsOutput, PrintsPrefix, IsMessage, IsLine, IsUsage, Says, SaysLine, SaysAtMost, answer_of, file_of, said_of, status_of_end}
+use Rattle.cov_tool.specs.private.Cause.{Holds, HasOnly, IsCause, IsAnswered, message_at, status_of, PrintsAtMost, nothing, some}
 use Rattle.cov_tool.specs.declared.fault.Fault.{Fault}
 use Rattle.cov_tool.specs.declared.line.Complaint.{Complaint}
 use Rattle.cov_tool.specs.declared.status.Status.{Status}
@@ -208,6 +208,11 @@ module _ (words : List (List ℕ)) (told : Option Held) where
           PrintsAll result → PrintsOutput result words told before after
       end_prints is (inl e) all = prints_output answered (e ∙ end_has_status request end says is)
       end_prints is (inr e) all = absurd (subst PrintsAll e all)
+
+    pub prints_some : (before after : Option (List ℕ)) → PrintsAtMost told request before after → PrintsPrefix words told before after
+    prints_some before after (nothing same) = P.nothing same
+    prints_some before after (some {bytes = bytes} {tree = tree} held accepted only takes) =
+        P.some {request = request} {bytes = bytes} {tree = tree} (record { finds = finds words told request named held; accepted = accepted }) takes
 
     pub prints_prefix : (before after : Option (List ℕ)) → PrintsAtMost told request before after →
         IsSome told → (output : List ℕ) → IsOutput words told output → TakesPrefix before after output

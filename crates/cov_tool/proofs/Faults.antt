@@ -13,7 +13,7 @@ use Rattle.cov_words.specs.Words.{Request, command_of}
 use Rattle.cov_tool.specs.Line as said
 use Rattle.cov_tool.specs.Program as P
 use Rattle.cov_tool.specs.Program.{Finds, IsRefused, IsDue, PrintsAll, IsRefusal, IsMessage, file_of}
-use Rattle.cov_tool.specs.Cause.{Holds, HasOnly, IsCause, message_at, status_of}
+use Rattle.cov_tool.specs.private.Cause.{Holds, HasOnly, IsCause, message_at, status_of}
 use Rattle.cov_tool.specs.declared.fault.Fault.{Fault}
 use Rattle.cov_tool.specs.declared.fault.Fault.TheVariants as fault
 

@@ -7,7 +7,7 @@ use Rattle.js_scopes.specs.Accepted.{Accepted}
 use Rattle.cov_base.specs.Store.{Held}
 use Rattle.cov_words.specs.Words.{Request, command_of}
 use Rattle.cov_tool.specs.Program.{Finds, Ends, IsDue, GivesWay, PrintsAll, answer_of, file_of, status_of_end}
-use Rattle.cov_tool.specs.Cause.{HasOnly}
+use Rattle.cov_tool.specs.private.Cause.{HasOnly}
 use Rattle.cov_tool.specs.declared.status.Status.{Status}
 use Rattle.cov_tool.specs.declared.status.Status.TheVariants as status
 use Rattle.cov_tool.proofs.Faults.{IsNoSource}

@@ -1,4 +1,5 @@
-pub mod Cause
-pub mod Program
 pub mod Hash
 pub mod Line
+pub mod Program
+pub mod Status
+pub mod private

@@ -5,6 +5,7 @@ use Rattle.std.specs.Str.Lossy.{utf8_valid_len}
 use Rattle.js_tree.specs.declared.place.Pos.{Pos}
 use Rattle.js_tree.specs.Plain.{File}
 use Rattle.js_tree.specs.Height.{height_file}
+use Rattle.js_tree.specs.declared.construct.Construct.{Construct}
 use Rattle.js_walk.specs.Constructs.{constructs_file}
 use Rattle.js_text.specs.Limits.{source_limits}
 use Rattle.js_text.specs.Position.{position}
@@ -39,9 +40,13 @@ abbrev pub turns_of : Request → ℕ
 turns_of (Maps path) = 0
 turns_of (Exec turns path) = turns
 
--- the zero FileCoverage of a file and LF
+-- the zero FileCoverage of a file of these constructs, and LF
+abbrev pub zero_text : List ℕ → List ℕ → List Construct → List ℕ
+zero_text path bytes list = json_text (zero_file path (hash_text bytes) list ∷ []) ++ 0x0A ∷ []
+
+-- that of a file
 abbrev pub maps_text : List ℕ → List ℕ → File → List ℕ
-maps_text path bytes tree = json_text (zero_file path (hash_text bytes) (constructs_file tree) ∷ []) ++ 0x0A ∷ []
+maps_text path bytes tree = zero_text path bytes (constructs_file tree)
 
 -- the answer of a run: what it printed, and how it ended
 abbrev pub answer_of_run : PlainRun → Answer
@@ -142,6 +147,13 @@ pub data IsOutput (words : List (List ℕ)) (told : Option Held) : List ℕ → 
   accepted : {request : Request} {bytes : List ℕ} {tree : File} → IsAccepted words told request bytes tree →
       IsOutput words told (answer_of request bytes tree).output
   none : ((request : Request) (bytes : List ℕ) (tree : File) → IsAccepted words told request bytes tree → ⊥) → IsOutput words told []
+
+-- nothing was printed, or a prefix of the output of a source that the words name: of the one that is held where the store tells,
+-- and else of some content that the file could have
+pub data PrintsPrefix (words : List (List ℕ)) (told : Option Held) (before after : Option (List ℕ)) : Type 0 where
+  nothing : after ≡ before → PrintsPrefix words told before after
+  some : {request : Request} {bytes : List ℕ} {tree : File} → IsAccepted words told request bytes tree →
+      TakesPrefix before after (answer_of request bytes tree).output → PrintsPrefix words told before after
 
 -- with these statuses all of it was printed
 abbrev pub PrintsAll : Status → Type 0

@@ -3,7 +3,7 @@ ghost use Rattle.js_tree.specs.Tree.{plain_file};
 ghost use Rattle.js_text.specs.Reads.{Reads};
 ghost use Rattle.cov_words.specs.Words.{request_of};
 ghost use Rattle.cov_tool.specs.Program as spec;
-ghost use Rattle.cov_tool.specs.Cause.{IsAnswerTo, IsBytesFault};
+ghost use Rattle.cov_tool.specs.private.Cause.{IsAnswerTo, IsBytesFault};
 
 use crate::exec::exec;
 use crate::fault::Fault;
@@ -36,7 +36,7 @@ fn answer_for(
     ensures { IfOk result (λ answer. answer ≡ spec.answer_of (request_of command.now) text.now (plain_file file)) }
 {
     match command {
-        Command::Maps { file: path } => maps(alloc, path.as_str(), text, &file),
+        Command::Maps { file: path } => maps(alloc, path.as_str(), text, file),
         Command::Exec { turns, file: path } => exec(alloc, *turns, path.as_str(), text, file),
     }
 }

@@ -1,7 +1,7 @@
 ghost use Rattle.std.specs.Prelude.{◌≡◌, ◌≢◌, ◌⊎◌};
 ghost use Rattle.cov_base.specs.Sink.{TakesPrefix};
 ghost use Rattle.cov_tool.specs.Program.{Says};
-ghost use Rattle.cov_tool.specs.Cause as cause;
+ghost use Rattle.cov_tool.specs.private.Cause as cause;
 ghost use Rattle.cov_tool.specs.Line as said;
 
 use crate::line::{Complaint, line, out_of_memory};
@@ -30,11 +30,14 @@ fn status_of(complaint: &Complaint<'_>) -> Status
     }
 }
 
-/// Says that memory is wanting, as far as the sink takes it.
-fn say_out_of_memory<E: Sink>(err: &mut E)
-    ensures { TakesPrefix (E.taken err.old) (E.taken err.new) (said.line said.OutOfMemory) }
+/// Says that memory is wanting, as far as the sink takes it, and gives that status. It takes no
+/// memory.
+pub fn say_out_of_memory<E: Sink>(err: &mut E) -> Status
+    ensures status { result ≡ Status.Memory }
+    ensures says { TakesPrefix (E.taken err.old) (E.taken err.new) (said.line said.OutOfMemory) }
 {
     let _ = write_all(err, out_of_memory().as_bytes());
+    Status::Memory
 }
 
 /// Says the complaint's line and gives its status. A fault of the sink changes no status; where
@@ -47,8 +50,7 @@ pub(crate) fn complain<E: Sink>(alloc: Global, complaint: &Complaint<'_>, err: &
         × TakesPrefix (E.taken err.old) (E.taken err.new) (said.line message) }
 {
     let Ok(text) = line(alloc, complaint) else {
-        say_out_of_memory(err);
-        return Status::Memory;
+        return say_out_of_memory(err);
     };
     match write_all(err, text.as_slice()) {
         Ok(()) | Err(Failed::Device) => status_of(complaint),

@@ -28,7 +28,7 @@ pub(crate) enum Fault {
 }
 
 impl Fault {
-    ghost use Rattle.cov_tool.specs.Cause.{message_at};
+    ghost use Rattle.cov_tool.specs.private.Cause.{message_at};
     ghost use Rattle.cov_tool.specs.Line.{message_of};
 
     /// The complaint about the file at a path.

@@ -15,5 +15,6 @@ mod source;
 mod status;
 mod work;
 
+pub use complain::say_out_of_memory;
 pub use program::cov;
 pub use status::Status;

@@ -1,7 +1,7 @@
 ghost use Rattle.std.specs.Prelude.{◌≡◌, IfErr, OnOk};
 ghost use Rattle.cov_base.specs.Causes.{Rose};
 ghost use Rattle.cov_base.specs.Sink.{after_more, TakesPrefix};
-ghost use Rattle.cov_tool.specs.Cause.{IsPrintingFault};
+ghost use Rattle.cov_tool.specs.private.Cause.{IsPrintingFault};
 
 use crate::fault::Fault;
 use cov_base::{Failed, Sink, write_all};

@@ -1,7 +1,7 @@
 ghost use Rattle.std.specs.Prelude.{◌≡◌, ◌≢◌, ℕ, List, IsSome, map, string_bytes};
 ghost use Rattle.cov_base.specs.Causes.{Rose};
 ghost use Rattle.cov_base.specs.Sink.{TakesPrefix};
-ghost use Rattle.cov_tool.specs.Program.{IsDue, ExactlyWhere, IsUsage, IsOutput, PrintsAll, PrintsOutput, PrintsNothing, SaysLine, SaysAtMost};
+ghost use Rattle.cov_tool.specs.Program.{IsDue, ExactlyWhere, IsUsage, IsOutput, PrintsAll, PrintsOutput, PrintsPrefix, PrintsNothing, SaysLine, SaysAtMost};
 
 use crate::complain::complain;
 use crate::line::Complaint;
@@ -41,7 +41,8 @@ pub fn cov<S: Store, O: Sink, E: Sink>(
     // What has been printed.
     ensures printed { PrintsAll result
         → PrintsOutput result (map string_bytes words.now) (S.held store.old) (O.taken out.old) (O.taken out.new) }
-    ensures prefix { IsSome (S.held store.old) → (output : List ℕ)
+    ensures prefix { PrintsPrefix (map string_bytes words.now) (S.held store.old) (O.taken out.old) (O.taken out.new) }
+    ensures defined { IsSome (S.held store.old) → (output : List ℕ)
         → IsOutput (map string_bytes words.now) (S.held store.old) output
         → TakesPrefix (O.taken out.old) (O.taken out.new) output }
     ensures nothing { PrintsNothing result → O.taken out.new ≡ O.taken out.old }

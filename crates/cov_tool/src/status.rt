@@ -1,26 +1,50 @@
-/// How the program ends; the numbers are its exit statuses.
+/// How the program ends.
 #[derive(Clone, Copy, Debug, PartialEq, Eq)]
 pub enum Status {
     /// The command's work is done.
-    Ok = 0,
+    Ok,
     /// An exception wasn't caught.
-    Threw = 1,
+    Threw,
     /// The words have no reading.
-    Usage = 2,
+    Usage,
     /// A source isn't accepted.
-    Refused = 3,
+    Refused,
     /// The store failed in a read.
-    ReadFault = 5,
+    ReadFault,
     /// Standard output failed in a write.
-    WriteFault = 6,
+    WriteFault,
     /// The program left the profile.
-    Range = 7,
+    Range,
     /// The steps were used up.
-    Going = 8,
+    Going,
     /// Want of memory.
-    Memory = 9,
+    Memory,
     /// An input is too long.
-    Limit = 10,
+    Limit,
     /// A file that was named isn't there.
-    NoFile = 12,
+    NoFile,
+}
+
+impl Status {
+    ghost use Rattle.std.specs.Prelude.{◌≡◌};
+    ghost use Rattle.cov_tool.specs.Status.{code_of};
+
+    /// The exit status of the process.
+    pub fn code(self) -> u8
+        ensures { result ≡ code_of self }
+    {
+        match self {
+            Status::Ok => 0,
+            Status::Threw => 1,
+            Status::Usage => 2,
+            Status::Refused => 3,
+            Status::ReadFault => 5,
+            Status::WriteFault => 6,
+            Status::Range => 7,
+            Status::Going => 8,
+            Status::Memory => 9,
+            Status::Limit => 10,
+            Status::NoFile => 12,
+        }
+    }
 }

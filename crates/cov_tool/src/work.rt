@@ -1,7 +1,7 @@
 ghost use Rattle.std.specs.Prelude.{◌≡◌, IfOk, IfErr};
 ghost use Rattle.cov_base.specs.Causes.{Rose};
 ghost use Rattle.cov_words.specs.Words.{request_of};
-ghost use Rattle.cov_tool.specs.Cause.{IsCause, IsAnswered, IsBeforePrinting, PrintsAtMost};
+ghost use Rattle.cov_tool.specs.private.Cause.{IsCause, IsAnswered, IsBeforePrinting, PrintsAtMost};
 
 use crate::answer::{Answer, answer_to};
 use crate::fault::Fault;

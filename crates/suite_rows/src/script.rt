@@ -2,7 +2,9 @@
 //
 //     # TEXT           nothing
 //     file PATH TEXT   from here on the store holds this text at the path
-//     fails WHO N      from here on call N to the store, `out` or `err` fails
+//     nested PATH N BEFORE MIDDLE AFTER END   from here on it holds this text: BEFORE and AFTER stand N times
+//     fails WHO N      from here on call N to `store`, `out` or `err` fails
+//     wants WHO N      from here on call N to `store`, `out` or `err` wants memory
 //     (no word)        from here on the store is empty, and nothing fails
 //     cov WORDS        calls the program: below it stand the lines printed (`>`) and said (`!`), and the status (`=`)
 //     tokens TEXT      the text's tokens
@@ -11,7 +13,8 @@
 //     height TEXT      the height of the tree that the text is read to
 //     same TEXT <> TEXT   whether the two are read to the same but for places and parentheses
 //
-// Texts, paths and words are in percent encoding, and so is what is printed and said.
+// Texts, paths and words are in percent encoding, and so is what is printed and said. A line that is none of these
+// ends the program.
 use crate::call::Setting;
 use crate::names::names_of;
 use crate::shape::{height_of, same_of};
@@ -21,61 +24,71 @@ use crate::tree::tree_of;
 use cov_base::Memory;
 use std::alloc::Global;
 
-/// The lines of a file of rows, with the answers that are found in place of those that are written.
-pub(crate) fn answered(alloc: Global, script: &str) -> Result<String, Memory> {
+/// The lines of a file of rows, with the answers that are found in place of those that are written, or the number of
+/// the first line that isn't understood.
+pub(crate) fn answered(alloc: Global, script: &str) -> Result<Result<String, u64>, Memory> {
     let mut page = String::new(alloc);
     let mut setting = Setting::new(alloc);
+    let mut number: u64 = 0;
     for line in script.lines() {
+        number = number.saturating_add(1);
         if !is_answer(line) {
             page.push_str(line)?;
             page.push_str("\n")?;
-            perform(alloc, line, &mut setting, &mut page)?;
+            if !perform(alloc, line, &mut setting, &mut page)? {
+                return Ok(Err(number));
+            }
         }
     }
-    Ok(page)
+    Ok(Ok(page))
 }
 
 fn is_answer(line: &str) -> bool {
     line.starts_with('>') || line.starts_with('!') || line.starts_with('=')
 }
 
-/// Does what a line says, and writes its answer.
+/// Does what a line says, and writes its answer. False where the line isn't understood.
 fn perform(
     alloc: Global,
     line: &str,
     setting: &mut Setting,
     page: &mut String,
-) -> Result<(), Memory> {
+) -> Result<bool, Memory> {
+    if line.is_empty() {
+        *setting = Setting::new(alloc);
+        return Ok(true);
+    }
     let (word, rest) = line.split_once(' ').unwrap_or((line, ""));
     match word {
-        "#" => Ok(()),
-        "" => {
-            *setting = Setting::new(alloc);
-            Ok(())
-        }
+        "#" => Ok(true),
         "file" => setting.hold(alloc, rest),
+        "nested" => setting.hold_nested(alloc, rest),
         "fails" => setting.fail(rest),
-        "cov" => setting.call(alloc, rest, page),
-        _ => {
-            let answer = answer(alloc, word, rest)?;
-            page.push_str("> ")?;
-            page.push_str(answer.as_str())?;
-            page.push_str("\n")
+        "wants" => setting.want(rest),
+        "cov" => {
+            setting.call(alloc, rest, page)?;
+            Ok(true)
         }
+        _ => match answer(alloc, word, rest)? {
+            Some(answer) => {
+                page.push_str("> ")?;
+                page.push_str(answer.as_str())?;
+                page.push_str("\n")?;
+                Ok(true)
+            }
+            None => Ok(false),
+        },
     }
 }
 
-/// What a library answers to a text.
-fn answer(alloc: Global, word: &str, text: &str) -> Result<String, Memory> {
-    if word == "same" {
-        return same_of(alloc, text);
-    }
-    let bytes = bytes_of(alloc, text)?;
+/// What a library answers to a text, if the word names one.
+fn answer(alloc: Global, word: &str, text: &str) -> Result<Option<String>, Memory> {
     match word {
-        "tokens" => tokens_of(alloc, bytes),
-        "tree" => tree_of(alloc, bytes),
-        "names" => names_of(alloc, bytes),
-        "height" => height_of(alloc, bytes),
-        _ => String::from_str(alloc, "no such command"),
+        "tokens" => Ok(Some(tokens_of(alloc, bytes_of(alloc, text)?)?)),
+        "tree" => Ok(Some(tree_of(alloc, bytes_of(alloc, text)?)?)),
+        "names" => Ok(Some(names_of(alloc, bytes_of(alloc, text)?)?)),
+        "height" => Ok(Some(height_of(alloc, bytes_of(alloc, text)?)?)),
+        "same" => same_of(alloc, text),
+        _ => Ok(None),
     }
 }

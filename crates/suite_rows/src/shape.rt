@@ -18,16 +18,19 @@ pub(crate) fn height_of(alloc: Global, bytes: Vec<u8>) -> Result<String, Memory>
     }
 }
 
-/// Whether two texts with ` <> ` between them are read to the same, each compared with the other.
-pub(crate) fn same_of(alloc: Global, pair: &str) -> Result<String, Memory> {
-    let (one, other) = pair.split_once(" <> ").unwrap_or((pair, ""));
+/// Whether two texts with ` <> ` between them are read to the same, each compared with the other. None
+/// where there are no two.
+pub(crate) fn same_of(alloc: Global, pair: &str) -> Result<Option<String>, Memory> {
+    let Some((one, other)) = pair.split_once(" <> ") else {
+        return Ok(None);
+    };
     let one = read(alloc, bytes_of(alloc, one)?)?;
     let other = read(alloc, bytes_of(alloc, other)?)?;
     let answer = match (&one, &other) {
         (Ok(one), Ok(other)) => compared(one, other),
         _ => "not read",
     };
-    String::from_str(alloc, answer)
+    Ok(Some(String::from_str(alloc, answer)?))
 }
 
 fn compared(one: &File, other: &File) -> &'static str {

@@ -1,23 +1,14 @@
-//! The tests of the repository's libraries: what no contract says, with answers from outside.
+//! The tests of what no contract and no row says: of the edge to the host, of calls that the program doesn't make so far,
+//! and that each call of the lowest crates succeeds.
 #![tactic(auto)]
 
 #[cfg(test)]
-mod comments;
-#[cfg(test)]
 mod host;
-#[cfg(test)]
-mod limits;
-#[cfg(test)]
-mod reader;
 #[cfg(test)]
 mod runs;
 #[cfg(test)]
 mod sinks;
 #[cfg(test)]
 mod stores;
-#[cfg(test)]
-mod texts;
-#[cfg(test)]
-mod tokens;
 #[cfg(test)]
 mod trees;

@@ -2,7 +2,6 @@
 ghost use Rattle.std.specs.Prelude.{◌≡◌, IfOk};
 ghost use Rattle.std.specs.Option.{ForSome};
 
-use crate::tokens::text_of;
 use cov_base::Memory;
 use cov_run::start;
 use js_machine::Machine;
@@ -32,7 +31,8 @@ fn machine(alloc: Global, text: &Text) -> Result<Option<Machine>, Memory>
 #[test]
 fn a_run_goes_on_from_where_it_stopped(rt: HostRuntime) -> Result<(), Fail> {
     let alloc = rt.alloc();
-    let text = text_of(alloc, THREE_TURNS)?;
+    let bytes = Vec::from_slice(alloc, THREE_TURNS.as_bytes())?;
+    let text = Text::from_bytes(alloc, bytes, Limits::source())?;
     let mut machine = machine(alloc, &text)?.expect(&rt, "the source is read");
     assert!(rt; matches!(machine.run(2)?, End::Going));
     assert_eq!(rt; machine.output(), b"0\n".as_slice());

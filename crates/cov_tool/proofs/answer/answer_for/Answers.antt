@@ -8,4 +8,4 @@ use Rattle.cov_tool.proofs.answer.answer_for.Goals as goal
 pub returns-in-Exec : goal.returns-in-Exec
 returns-in-Exec c =
     subst (λ command. IfOk c.exec.result (λ answer. answer ≡ answer_of (request_of command) c.args.text.now (plain_file c.args.file))) (sym c.in-Exec.is)
-    (subst (λ path. IfOk c.exec.result (λ answer. answer ≡ answer_of (Exec c.in-Exec.turns path) c.args.text.now (plain_file c.args.file))) c.as_str-in-Exec.ensures.value c.exec.ensures)
+    (subst (λ path. IfOk c.exec.result (λ answer. answer ≡ answer_of (Exec c.in-Exec.turns path) c.args.text.now (plain_file c.args.file))) c.as_str-in-Exec.ensures c.exec.ensures)

@@ -4,7 +4,7 @@ use Rattle.js_tree.specs.Tree.{plain_file}
 use Rattle.js_scopes.specs.Accepted.{Accepted}
 use Rattle.cov_words.specs.Words.{request_of}
 use Rattle.cov_tool.specs.Program.{answer_of}
-use Rattle.cov_tool.specs.Cause.{HasOnly}
+use Rattle.cov_tool.specs.private.Cause.{HasOnly}
 use Rattle.cov_tool.proofs.answer.answer_to.Goals as goal
 
 pub returns-clause-answer : goal.returns-clause-answer

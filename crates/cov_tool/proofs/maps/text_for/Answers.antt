@@ -1,7 +1,6 @@
--- What was read stands somewhere.
-use Rattle.std.proofs.Common.{◌∙◌}
-use Rattle.cov_tool.proofs.Placed.{placed}
+use Rattle.std.proofs.Common.{sym, subst}
+use Rattle.cov_maps.specs.Placed.{ArePlaced}
 use Rattle.cov_tool.proofs.maps.text_for.Goals as goal
 
 pub zero-requires : goal.zero-requires
-zero-requires c = record { lines = placed c.requires (c.as_slice.ensures.value ∙ c.in_ok-list.ensures) }
+zero-requires c = record { lines = subst ArePlaced (sym c.as_slice.ensures.value) c.requires }

@@ -1,8 +1,9 @@
 -- Each clause from what was found and from the complaint.
-use Rattle.std.proofs.Common.{Global, map, string_bytes}
+use Rattle.std.proofs.Common.{Global, map, string_bytes, refl}
+use Rattle.cov_tool.specs.Program.{nothing}
 use Rattle.cov_tool.specs.Line.{message_of}
 use Rattle.cov_tool.specs.declared.status.Status.TheVariants as status
-use Rattle.cov_tool.proofs.Due.{Stands, IsSaid, named_by, unread_by, complained, exactly_where, is_no_usage, fault_is_said, end_is_said, is_done, usage_is_said, memory_is_said, says_line, says_at_most, prints_prefix, done_prints, end_prints}
+use Rattle.cov_tool.proofs.Due.{Stands, IsSaid, named_by, unread_by, complained, exactly_where, is_no_usage, fault_is_said, end_is_said, is_done, usage_is_said, memory_is_said, says_line, says_at_most, prints_some, prints_prefix, done_prints, end_prints}
 use Rattle.cov_tool.proofs.program.cov.Given.{Over}
 use Rattle.cov_tool.proofs.program.cov.Goals as goal
 
@@ -39,7 +40,10 @@ pub returns-clause-due : goal.returns-clause-due
 returns-clause-due g c = (fault_stands g c).due
 
 pub returns-clause-prefix : goal.returns-clause-prefix
-returns-clause-prefix g c = prints_prefix _ _ (named_by _ c.in-Ok.ensures c.in-Some.is) _ _ c.work.ensures.prefix
+returns-clause-prefix g c = prints_some _ _ (named_by _ c.in-Ok.ensures c.in-Some.is) _ _ c.work.ensures.prefix
+
+pub returns-clause-defined : goal.returns-clause-defined
+returns-clause-defined g c = prints_prefix _ _ (named_by _ c.in-Ok.ensures c.in-Some.is) _ _ c.work.ensures.prefix
 
 pub returns-clause-says : goal.returns-clause-says
 returns-clause-says g c = λ other. says_line _ _ (fault_said g c) c.complain-in-Err.ensures.status other (c.complain-in-Err.ensures.says other)
@@ -83,7 +87,10 @@ pub returns-in-Some-said_of-clause-due : goal.returns-in-Some-said_of-clause-due
 returns-in-Some-said_of-clause-due g c = (end_stands g c).due
 
 pub returns-in-Some-said_of-clause-prefix : goal.returns-in-Some-said_of-clause-prefix
-returns-in-Some-said_of-clause-prefix g c = prints_prefix _ _ (named_by _ c.in-Ok.ensures c.in-Some.is) _ _ c.work.ensures.prefix
+returns-in-Some-said_of-clause-prefix g c = prints_some _ _ (named_by _ c.in-Ok.ensures c.in-Some.is) _ _ c.work.ensures.prefix
+
+pub returns-in-Some-said_of-clause-defined : goal.returns-in-Some-said_of-clause-defined
+returns-in-Some-said_of-clause-defined g c = prints_prefix _ _ (named_by _ c.in-Ok.ensures c.in-Some.is) _ _ c.work.ensures.prefix
 
 pub returns-in-Some-said_of-clause-says : goal.returns-in-Some-said_of-clause-says
 returns-in-Some-said_of-clause-says g c = λ other. says_line _ _ (end_said g c) c.complain-in-Some-said_of.ensures.status other (c.complain-in-Some-said_of.ensures.says other)
@@ -118,7 +125,10 @@ pub returns-in-Ok-work-clause-printed : goal.returns-in-Ok-work-clause-printed
 returns-in-Ok-work-clause-printed g c = λ all. done_prints _ _ (named_by _ c.in-Ok.ensures c.in-Some.is) c.in-Ok-work.end c.in-Ok-work.ensures.answered c.said_of.ensures c.in-None.is
 
 pub returns-in-Ok-work-clause-prefix : goal.returns-in-Ok-work-clause-prefix
-returns-in-Ok-work-clause-prefix g c = prints_prefix _ _ (named_by _ c.in-Ok.ensures c.in-Some.is) _ _ c.work.ensures.prefix
+returns-in-Ok-work-clause-prefix g c = prints_some _ _ (named_by _ c.in-Ok.ensures c.in-Some.is) _ _ c.work.ensures.prefix
+
+pub returns-in-Ok-work-clause-defined : goal.returns-in-Ok-work-clause-defined
+returns-in-Ok-work-clause-defined g c = prints_prefix _ _ (named_by _ c.in-Ok.ensures c.in-Some.is) _ _ c.work.ensures.prefix
 
 -- ---- no reading, and no memory for one
 
@@ -127,3 +137,9 @@ returns-in_default-read-clause-one_line g c = λ memory. let said = c.complain-i
 
 pub returns-in_default-clause-one_line : goal.returns-in_default-clause-one_line
 returns-in_default-clause-one_line g c = λ memory. let said = c.complain.ensures.one_line in says_at_most _ _ (memory_is_said _ _) said.1 said.2
+
+pub returns-in_default-read-clause-prefix : goal.returns-in_default-read-clause-prefix
+returns-in_default-read-clause-prefix g c = nothing refl
+
+pub returns-in_default-clause-prefix : goal.returns-in_default-clause-prefix
+returns-in_default-clause-prefix g c = nothing refl

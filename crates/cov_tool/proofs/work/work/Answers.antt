@@ -1,7 +1,7 @@
 -- What was printed is a prefix of the output of the answer to the bytes that were read.
 use Rattle.std.proofs.Common.{◌∙◌, Some, ap, subst}
 use Rattle.cov_base.specs.Sink.{TakesPrefix}
-use Rattle.cov_tool.specs.Cause.{Holds, some}
+use Rattle.cov_tool.specs.private.Cause.{Holds, some}
 use Rattle.cov_tool.specs.declared.answer.Answer.{Answer}
 use Rattle.cov_tool.proofs.work.work.Goals as goal
 
