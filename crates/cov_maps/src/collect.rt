@@ -4,9 +4,7 @@ ghost use Rattle.js_tree.specs.Tree.{plain_expr, plain_file, plain_stmt};
 ghost use Rattle.js_walk.specs.Constructs.{chained_in, constructs_file, own_construct, own_expr, own_stmt};
 ghost use Rattle.js_walk.specs.Part.{AnExpr};
 
-use crate::counts::{
-    count, count_body, count_branch, count_default, count_if, count_initializer,
-};
+use crate::counts::{count, count_body, count_branch, count_default, count_if, count_initializer};
 use crate::functions::{count_function, count_method, count_named, count_nameless};
 use crate::names::all_named;
 use crate::places::{

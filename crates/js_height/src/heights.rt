@@ -236,7 +236,10 @@ fn of_template_part(template_part: &TemplatePart) -> u64
 fn of_function(function: &Function) -> u64
     ensures { result ≡ held (height_function (plain_function function.now)) }
 {
-    above_two(of_params(function.params.as_slice()), of_function_body(&function.body))
+    above_two(
+        of_params(function.params.as_slice()),
+        of_function_body(&function.body),
+    )
 }
 
 #[cycle(height)]

@@ -128,9 +128,9 @@ abbrev pub if_branch : Option Loc → MaybeStmt → List Construct
 if_branch loc fails = branch branch_kind.If loc (loc ∷ stmt_if_place fails ∷ [])
 
 -- the name that a function is written with: the empty one, where it has none (15.2.5)
-abbrev pub own_name : Option Identifier → List ℕ
-own_name None = []
-own_name (Some name) = name.name
+abbrev pub written_name : Option Identifier → List ℕ
+written_name None = []
+written_name (Some name) = name.name
 
 -- where a function that starts here is declared: where its name stands, or the first column of it
 abbrev pub declared_place : Pos → Option Identifier → Option Loc
@@ -145,7 +145,7 @@ function_at name _ _ = []
 -- a function that stands here, by its name and the place of its body
 abbrev pub counted_function : Option Loc → Option Identifier → Option Loc → List Construct
 counted_function None name body = []
-counted_function (Some loc) name body = function_at (own_name name) (declared_place loc.start name) body
+counted_function (Some loc) name body = function_at (written_name name) (declared_place loc.start name) body
 
 -- ---- what a part of a file gives
 
