@@ -12,8 +12,8 @@ use Rattle.std.specs.declared.alloc.Global.{Global}
 use Rattle.serde_json.specs.Data.{Data, object, Members, no_members, member, put}
 use Rattle.serde_json.specs.Written.{compact_text}
 use Rattle.cov_object.specs.Json.{numbered}
-use Rattle.cov_object.specs.Order.{put_in, in_key_order, members_of}
-use Rattle.cov_object.specs.Piece.{key_text, member_text}
+use Rattle.cov_object.specs.private.Order.{put_in, in_key_order, members_of}
+use Rattle.cov_object.specs.private.Piece.{key_text, member_text}
 
 module _ {T : Type 0} where
   -- lent things under texts, as the things under the texts' bytes

@@ -3,7 +3,7 @@ use Rattle.std.proofs.Common.{◌≡◌, List, ℕ, ◌++◌, Bool, true, false,
 use Rattle.std.specs.Prelude.{Result, Ok, Err, OnOk}
 use Rattle.serde_json.specs.Data.{Data, Members, member}
 use Rattle.serde_json.specs.Written.{compact_text, has_float, members_text}
-use Rattle.cov_object.specs.Piece.{member_text}
+use Rattle.cov_object.specs.private.Piece.{member_text}
 
 -- what a call leaves that writes a value, where the value is this data
 pub written : {E : Type 0} (r : Result (Unit {0}) E) (value shown target : Data) (before after : List ℕ) →

@@ -14,7 +14,7 @@ use Rattle.cov_object.specs.declared.file.FunctionCoverage.{FunctionCoverage}
 use Rattle.cov_object.specs.declared.file.StatementCoverage.{StatementCoverage}
 use Rattle.cov_object.specs.Files.{AreInOrder}
 use Rattle.cov_object.specs.Json.{by_key, statements_data, statement_counts_data, functions_data, function_counts_data, branches_data, branch_counts_data, with_hash, with_source_map, file_data, json_text}
-use Rattle.cov_object.specs.Piece.{key_text, member_text, hash_text, source_map_text}
+use Rattle.cov_object.specs.private.Piece.{key_text, member_text, hash_text, source_map_text}
 use Rattle.cov_object.specs.SourceMapText.{data_of}
 use Rattle.cov_object.proofs.PieceLemmas.{members_text-member}
 

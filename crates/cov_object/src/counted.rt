@@ -2,7 +2,7 @@ ghost use Rattle.std.specs.Prelude.{◌≡◌, ◌++◌, OnOk};
 ghost use Rattle.serde_json.specs.Data.{Data};
 ghost use Rattle.serde_json.specs.Written.{compact_text};
 ghost use Rattle.cov_object.specs.declared.counted.Part.{Part};
-ghost use Rattle.cov_object.specs.Counted.{part_of};
+ghost use Rattle.cov_object.specs.private.Counted.{part_of};
 ghost use Rattle.cov_object.specs.Json as spec;
 
 use crate::file::{BranchCoverage, FunctionCoverage, StatementCoverage};

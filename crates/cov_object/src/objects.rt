@@ -2,8 +2,8 @@ ghost use Rattle.std.specs.Prelude.{◌≡◌, ◌++◌, map, true, string_bytes
 ghost use Rattle.serde_json.specs.Data.{object};
 ghost use Rattle.serde_json.specs.Written.{compact_text};
 ghost use Rattle.cov_object.specs.Json.{numbered};
-ghost use Rattle.cov_object.specs.Order.{members_of};
-ghost use Rattle.cov_object.specs.Piece.{member_text};
+ghost use Rattle.cov_object.specs.private.Order.{members_of};
+ghost use Rattle.cov_object.specs.private.Piece.{member_text};
 
 use crate::counted::{Counted, Part};
 use crate::order::in_digit_order;

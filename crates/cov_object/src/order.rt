@@ -1,5 +1,5 @@
 ghost use Rattle.std.specs.Prelude.{◌≡◌, map, string_bytes, IfOk};
-ghost use Rattle.cov_object.specs.Order.{in_key_order};
+ghost use Rattle.cov_object.specs.private.Order.{in_key_order};
 
 use items::Memory;
 use std::alloc::Global;

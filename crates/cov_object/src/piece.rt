@@ -2,7 +2,7 @@ ghost use Rattle.std.specs.Prelude.{◌≡◌, ◌++◌, true, false, OnOk};
 ghost use Rattle.serde_json.specs.Data.{string};
 ghost use Rattle.serde_json.specs.View.{view};
 ghost use Rattle.serde_json.specs.Written.{compact_text, has_float};
-ghost use Rattle.cov_object.specs.Piece.{key_text, member_text};
+ghost use Rattle.cov_object.specs.private.Piece.{key_text, member_text};
 
 use items::Memory;
 use serde_json::Value;

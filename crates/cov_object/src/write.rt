@@ -1,7 +1,7 @@
 ghost use Rattle.std.specs.Prelude.{◌≡◌, ◌++◌, IfOk, OnOk};
 ghost use Rattle.serde_json.specs.Written.{compact_text};
 ghost use Rattle.cov_object.specs.Json as spec;
-ghost use Rattle.cov_object.specs.Piece.{hash_text, source_map_text};
+ghost use Rattle.cov_object.specs.private.Piece.{hash_text, source_map_text};
 
 use crate::file::FileCoverage;
 use crate::map::CoverageMap;

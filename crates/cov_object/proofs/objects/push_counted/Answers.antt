@@ -4,7 +4,7 @@ use Rattle.serde_json.specs.Data.{object}
 use Rattle.serde_json.specs.Written.{compact_text}
 use Rattle.cov_object.specs.declared.counted.Part.TheVariants.{Counts, Description}
 use Rattle.cov_object.specs.Json.{numbered}
-use Rattle.cov_object.specs.Order.{members_of}
+use Rattle.cov_object.specs.private.Order.{members_of}
 use Rattle.cov_object.proofs.OrderLemmas.{by_bytes, key_order-numbered, two_members}
 use Rattle.cov_object.proofs.objects.push_counted.Goals as goal
 

@@ -2,7 +2,7 @@
 use Rattle.std.proofs.Common.{◌≡◌, ◌++◌, map, drop, nat_lt}
 use Rattle.serde_json.specs.Data.{object}
 use Rattle.serde_json.specs.Written.{compact_text, members_text}
-use Rattle.cov_object.specs.Order.{members_of}
+use Rattle.cov_object.specs.private.Order.{members_of}
 use Rattle.cov_object.proofs.OrderLemmas.{by_bytes}
 use Rattle.cov_object.proofs.objects.push_object.Given as goal
 

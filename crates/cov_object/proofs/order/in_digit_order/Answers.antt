@@ -1,7 +1,7 @@
 use Rattle.std.proofs.Common.{◌≡◌, ◌+◌, ◌∷◌, [], fold, drop, refl, sym, ap, ◌∙◌, rules, IfOk}
 use Rattle.std.proofs.lemmas.Result.{IfOk-weaker}
 use Rattle.std.proofs.lemmas.List.{at_drop_more, at_drop_all}
-use Rattle.cov_object.specs.Order.{put_in, in_key_order}
+use Rattle.cov_object.specs.private.Order.{put_in, in_key_order}
 use Rattle.cov_object.proofs.OrderLemmas.{by_bytes, put_in-more}
 use Rattle.cov_object.proofs.order.in_digit_order.Goals as goal
 

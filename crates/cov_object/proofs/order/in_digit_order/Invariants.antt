@@ -1,6 +1,6 @@
 -- With the things that are left put in, the map has all.
 use Rattle.std.proofs.Common.{◌≡◌, fold, drop}
-use Rattle.cov_object.specs.Order.{put_in, in_key_order}
+use Rattle.cov_object.specs.private.Order.{put_in, in_key_order}
 use Rattle.cov_object.proofs.OrderLemmas.{by_bytes}
 use Rattle.cov_object.proofs.order.in_digit_order.Given as goal
 

@@ -1,6 +1,6 @@
 use Rattle.std.proofs.Common.{◌++◌, true, ap, ◌∙◌, codes}
 use Rattle.serde_json.specs.Data.{string}
-use Rattle.cov_object.specs.Piece.{member_text}
+use Rattle.cov_object.specs.private.Piece.{member_text}
 use Rattle.cov_object.proofs.WriteLemmas.{file-pieces}
 use Rattle.cov_object.proofs.write.push_file.Goals as goal
 

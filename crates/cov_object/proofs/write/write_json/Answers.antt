@@ -1,6 +1,6 @@
 use Rattle.std.proofs.Common.{◌≡◌, ◌++◌, ◌∷◌, false, map, sym, ap, ◌∙◌}
 use Rattle.std.proofs.lemmas.Iterator.Consumers.{YieldsList-from_rest, YieldsList-end}
-use Rattle.cov_object.specs.Piece.{key_text}
+use Rattle.cov_object.specs.private.Piece.{key_text}
 use Rattle.cov_object.proofs.WriteLemmas.{begun, is_later, now_more, one_more, is_later-more, all_written}
 use Rattle.cov_object.proofs.write.write_json.Goals as goal
 

@@ -2,7 +2,7 @@ use Rattle.std.proofs.Common.{map, ap, ◌∙◌}
 use Rattle.serde_json.specs.Data.{array}
 use Rattle.serde_json.specs.View.{items_of}
 use Rattle.serde_json.proofs.Views.{view-Array}
-use Rattle.cov_object.specs.Counted.{part_of}
+use Rattle.cov_object.specs.private.Counted.{part_of}
 use Rattle.cov_object.specs.Json.{count_data, path_counts_data, branch_data}
 use Rattle.cov_object.proofs.PieceLemmas.{written}
 use Rattle.cov_object.proofs.Plain.{branch-plain, path_counts-plain}
