@@ -2,3 +2,4 @@ pub mod JsonSummary
 pub mod Lcov
 pub mod Percent
 pub mod Piece
+pub mod Table
