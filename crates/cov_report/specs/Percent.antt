@@ -1,5 +1,5 @@
 -- How a percentage prints.
-use Rattle.std.specs.Prelude.{ℕ, ◌/◌, ◌%◌, cond, nat_lt, List, [], ◌∷◌, ◌++◌, decimal}
+use Rattle.std.specs.Prelude.{ℕ, ◌/◌, ◌%◌, cond, nat_lt, List, ◌∷◌, ◌++◌, decimal}
 
 -- from hundredths: a decimal without zeros at its end, as 66.66, 12.5 and 100
 abbrev pub percent_text : ℕ → List ℕ

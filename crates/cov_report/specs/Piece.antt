@@ -1,5 +1,5 @@
 -- Pieces of the reports.
-use Rattle.std.specs.Prelude.{ℕ, Bool, cond, ◌||◌, nat_eq, List, [], ◌∷◌, ◌++◌, map, Option, Some, None}
+use Rattle.std.specs.Prelude.{ℕ, cond, ◌||◌, nat_eq, List, [], ◌∷◌, ◌++◌, map, Option, Some, None}
 use Rattle.cov_object.specs.declared.location.Position.{Position}
 use Rattle.cov_object.specs.declared.location.Location.{Location}
 

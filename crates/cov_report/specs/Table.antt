@@ -1,5 +1,5 @@
 -- The report as a table: a line of text a clause.
-use Rattle.std.specs.Prelude.{ℕ, zero, suc, ◌+◌, ◌-◌, ◌<◌, cond, max, nat_eq, nat_lt, List, [], ◌∷◌, ◌++◌, length, map, fold, codes, decimal}
+use Rattle.std.specs.Prelude.{ℕ, zero, suc, ◌+◌, ◌-◌, cond, max, nat_eq, List, [], ◌∷◌, ◌++◌, length, fold, codes, decimal}
 use Rattle.std.specs.List.{flat_map}
 use Rattle.std.specs.Str.{chars}
 use Rattle.cov_object.specs.declared.file.FileCoverage.{FileCoverage}

@@ -1,5 +1,5 @@
 -- Totals stay exact.
-use Rattle.std.proofs.Common.{◌≡◌, ℕ, ◌+◌, ◌^◌, ◌<◌, ◌≤◌, cond, nat_lt, Bool, true, false, List, [], ◌∷◌, ◌++◌, map, fold, Bor, refl, ap, ◌∙◌, arith}
+use Rattle.std.proofs.Common.{◌≡◌, ℕ, ◌+◌, ◌^◌, ◌<◌, ◌≤◌, cond, nat_lt, Bool, true, false, List, [], ◌∷◌, ◌++◌, map, fold, Bor, refl, ap, arith}
 use Rattle.std.specs.List.{All}
 use Rattle.std.proofs.lemmas.Bool.{ltb-true, ltb-false}
 use Rattle.std.proofs.lemmas.List.Elements.{All-nil, All-cons}
@@ -7,7 +7,6 @@ use Rattle.cov_object.specs.declared.file.BranchCoverage.{BranchCoverage}
 use Rattle.cov_object.specs.declared.file.FileCoverage.{FileCoverage}
 use Rattle.cov_summary.specs.declared.totals.Totals.{Totals}
 use Rattle.cov_summary.specs.declared.sums.Sums.{Sums}
-use Rattle.cov_summary.specs.declared.sums.FileSums.{FileSums}
 use Rattle.cov_summary.specs.Lines.{lines_of}
 use Rattle.cov_summary.specs.Totals.{next, with_count, with_counts, IsExact}
 use Rattle.cov_summary.specs.Sums.{no_sums, with_branches, with_file, file_sums, AreExact}

@@ -1,5 +1,5 @@
 -- The lines of a file, and how often each ran.
-use Rattle.std.specs.Prelude.{ℕ, List, [], ◌∷◌, map, fold, max, Option, Some, None}
+use Rattle.std.specs.Prelude.{ℕ, List, [], fold, max, Option, Some, None}
 use Rattle.std.specs.Ordering.{nat_cmp}
 use Rattle.std.specs.BTreeMap.{insert_entry, is_at}
 use Rattle.std.specs.Map.{lookup}

@@ -1,5 +1,5 @@
 -- How many there are of something, and how many of them ran.
-use Rattle.std.specs.Prelude.{ℕ, ◌+◌, ◌-◌, ◌^◌, ◌<◌, ◌≤◌, cond, nat_lt, List, fold}
+use Rattle.std.specs.Prelude.{ℕ, ◌+◌, ◌^◌, ◌<◌, ◌≤◌, cond, nat_lt, List, fold}
 use Rattle.cov_summary.specs.declared.totals.Totals.{Totals}
 
 -- one more, up to 2^53 - 1

@@ -4,7 +4,7 @@ use Rattle.std.proofs.lemmas.Iterator.Consumers.{YieldsList-from_rest, YieldsLis
 use Rattle.cov_summary.specs.declared.sums.FileSums.{FileSums}
 use Rattle.cov_summary.specs.declared.sums.Summary.{Summary}
 use Rattle.cov_summary.specs.declared.sums.Sums.{Sums}
-use Rattle.cov_summary.specs.Sums.{with_file, no_sums, file_sums, AreExact, summary_of}
+use Rattle.cov_summary.specs.Sums.{with_file, no_sums, file_sums, AreExact}
 use Rattle.cov_summary.proofs.Exact.{exact-all, exact-each, fold-more, now_more, map-more}
 use Rattle.cov_summary.proofs.summarize.summary.Goals as goal
 
