@@ -1,5 +1,5 @@
 -- What a step is for, and how a file begins (ECMA-262, 10.2.11; the body of a CommonJS file).
-use Rattle.std.specs.Prelude.{ℕ, zero, suc, ◌+◌, Bool, true, false, ◌||◌, List, [], ◌∷◌, ◌++◌, map, filter, not, Option, Some, None, slice_get, codes, if◌then◌else◌}
+use Rattle.std.specs.Prelude.{ℕ, ◌+◌, Bool, true, false, List, [], ◌∷◌, map, Option, Some, None, slice_get, codes, if◌then◌else◌}
 use Rattle.js_tree.specs.Plain as P
 use Rattle.js_tree.specs.Plain.{MakeFile}
 use Rattle.js_value.specs.declared.value.Value.{Value}

@@ -1,11 +1,11 @@
 -- What a reader expects of the meaning, as laws.
-use Rattle.std.specs.Prelude.{◌≡◌, ℕ, zero, suc, ◌+◌, Bool, true, false, List, [], ◌∷◌, ◌++◌, Option, Some, None, if◌then◌else◌}
-use Rattle.js_tree.specs.Plain.{Expr, Stmt, Stmts, MaybeStmt, more_stmt, While, If}
+use Rattle.std.specs.Prelude.{◌≡◌, ℕ, zero, suc, ◌+◌, List, [], ◌∷◌, ◌++◌, None, if◌then◌else◌}
+use Rattle.js_tree.specs.Plain.{Expr, Stmt, Stmts, MaybeStmt, more_stmt, If}
 use Rattle.js_tree.specs.declared.construct.Construct as C
 use Rattle.js_walk.specs.Constructs.{constructs_stmt, constructs_expr}
 use Rattle.js_value.specs.declared.value.Value.{Value}
 use Rattle.js_value.specs.Operators.{to_boolean}
-use Rattle.js_value.specs.State.{Store, Entered}
+use Rattle.js_value.specs.State.{Store}
 use Rattle.js_value.specs.Running.{note}
 use Rattle.js_value.specs.Realm.{undefined}
 use Rattle.js_meaning.specs.declared.outcome.Completion.{Completion}
@@ -13,11 +13,11 @@ use Rattle.js_meaning.specs.declared.outcome.Completion.TheVariants.{Normal, Bre
 use Rattle.js_meaning.specs.declared.outcome.Outcome.{Outcome}
 use Rattle.js_meaning.specs.declared.outcome.Outcome.TheVariants.{Completes, Refuses, Stops}
 use Rattle.js_meaning.specs.Marks.{Marks, Unmarked, Marked, after}
-use Rattle.js_meaning.specs.Effects.{Entry, Comp, ret, enter, handle, Ran, exec}
+use Rattle.js_meaning.specs.Effects.{Entry, Comp, enter, handle, exec}
 use Rattle.js_meaning.specs.Program.{Sources}
-use Rattle.js_meaning.specs.Meaning.{done, entering, comp_expr, comp_stmt, comp_stmts, comp_stmt_if, loop, while_turn, after_turn}
+use Rattle.js_meaning.specs.Meaning.{entering, comp_expr, comp_stmt, comp_stmts, comp_stmt_if, loop, while_turn, after_turn}
 use Rattle.js_meaning.specs.Files.{inside}
-use Rattle.js_meaning.specs.Steps.{Result, Completed, Refused, Stopped, then_go, eval, ran_by}
+use Rattle.js_meaning.specs.Steps.{Result, Completed, Stopped, then_go, eval, ran_by}
 use Rattle.js_meaning.specs.World.{meaning}
 
 -- Steps

@@ -1,5 +1,5 @@
 -- Where the constructs of a counted file are entered, and by which numbers.
-use Rattle.std.specs.Prelude.{ℕ, ◌+◌, List, [], ◌∷◌, length}
+use Rattle.std.specs.Prelude.{ℕ, ◌+◌, List, length}
 use Rattle.js_tree.specs.declared.construct.Construct.{Construct}
 
 -- whether constructs are entered: in no file that isn't counted; in a counted one, by the file's number in the program, and the

@@ -1,18 +1,15 @@
 -- What the forms of a file do (ECMA-262, 13 and 14), for a small language: by cases on the tree.
-use Rattle.std.specs.Prelude.{ℕ, zero, suc, ◌+◌, Bool, true, false, ◌||◌, List, [], ◌∷◌, ◌++◌, Option, Some, None, slice_get, codes, if◌then◌else◌, ℤ}
+use Rattle.std.specs.Prelude.{ℕ, ◌+◌, Bool, false, ◌||◌, List, [], ◌∷◌, ◌++◌, Option, Some, None, codes, if◌then◌else◌, ℤ}
 use Rattle.std.specs.Str.{bytes_eq}
-use Rattle.js_tree.specs.declared.place.Loc.{Loc}
 use Rattle.js_tree.specs.declared.operators.BinaryOperator.{BinaryOperator}
-use Rattle.js_tree.specs.declared.operators.AssignmentOperator.{AssignmentOperator}
 use Rattle.js_tree.specs.declared.operators.AssignmentOperator.TheVariants as assignment
-use Rattle.js_tree.specs.declared.operators.VariableKind.{VariableKind}
 use Rattle.js_tree.specs.declared.operators.VariableKind.TheVariants as variable
 use Rattle.js_tree.specs.Plain as P
 use Rattle.js_tree.specs.Plain.{Expr, IdentifierReference, NullLiteral, BooleanLiteral, NumericLiteral, StringLiteral, Parenthesized, Binary, Assignment, Exprs, no_expr, more_expr}
 use Rattle.js_tree.specs.Plain.{Stmt, Directive, Block, VariableDeclaration, Empty, Expression, If, While, Stmts, no_stmt, more_stmt, MaybeStmt, none_stmt, some_stmt}
 use Rattle.js_tree.specs.Plain.{Declarator, MakeDeclarator, Declarators, no_declarator, more_declarator, Pattern, BindingIdentifier, MaybeExpr, none_expr, some_expr}
 use Rattle.js_tree.specs.declared.construct.Construct as C
-use Rattle.js_walk.specs.Constructs.{constructs_expr, constructs_stmt, constructs_declarator, bare_place, counted, if_branch, counted_initializer}
+use Rattle.js_walk.specs.Constructs.{constructs_expr, constructs_stmt, constructs_declarator, bare_place, counted, if_branch}
 use Rattle.js_value.specs.declared.value.Value.{Value}
 use Rattle.js_value.specs.declared.value.Value.TheVariants as value
 use Rattle.js_value.specs.declared.value.Primitive.{Primitive}
@@ -25,12 +22,11 @@ use Rattle.js_value.specs.Objects.{kind_of, next_object, new_object, define}
 use Rattle.js_value.specs.Environments.{Cell, lookup, value_of, assign_answer, assign, Assign, Done, Dead, Constant}
 use Rattle.js_value.specs.declared.error_kind.ErrorKind.{ErrorKind}
 use Rattle.js_value.specs.declared.error_kind.ErrorKind.TheVariants.{TypeError, ReferenceError}
-use Rattle.js_value.specs.Realm as realm
 use Rattle.js_value.specs.Realm.{error_prototype, hidden, text, object, undefined}
 use Rattle.js_meaning.specs.declared.outcome.Completion.{Completion}
 use Rattle.js_meaning.specs.declared.outcome.Completion.TheVariants.{Normal, Break, Continue, Return, Throw}
 use Rattle.js_meaning.specs.Marks.{Marks, Unmarked, Marked, after}
-use Rattle.js_meaning.specs.Effects.{Entry, WhileTurn, Construct, Comp, ret, refuse, act, enter, handle}
+use Rattle.js_meaning.specs.Effects.{WhileTurn, Construct, Comp, ret, refuse, act, enter, handle}
 use Rattle.js_meaning.specs.Effects as E
 
 -- what stands for the meaning of a form that is not in the language yet, of which nothing is said: a proof sees what it is only

@@ -1,5 +1,5 @@
 -- A program as plain data.
-use Rattle.std.specs.Prelude.{ℕ, Bool, false, List, map, Option, position, option_map}
+use Rattle.std.specs.Prelude.{ℕ, Bool, false, List, map, Option, position}
 use Rattle.std.specs.Str.{bytes_eq}
 use Rattle.js_tree.specs.Plain as P
 use Rattle.js_tree.specs.Tree.{plain_file}

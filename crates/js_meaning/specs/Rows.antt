@@ -6,14 +6,14 @@ use Rattle.js_tree.specs.declared.operators.BinaryOperator.TheVariants as binary
 use Rattle.js_tree.specs.declared.operators.AssignmentOperator.TheVariants as assignment
 use Rattle.js_tree.specs.declared.operators.VariableKind.TheVariants as variable
 use Rattle.js_tree.specs.Plain.{Expr, IdentifierReference, NullLiteral, NumericLiteral, StringLiteral, Binary, Assignment, Call, Exprs, no_expr, more_expr}
-use Rattle.js_tree.specs.Plain.{Stmt, Block, VariableDeclaration, Expression, If, While, Stmts, no_stmt, more_stmt, MaybeStmt, none_stmt, some_stmt, File, MakeFile}
-use Rattle.js_tree.specs.Plain.{MakeDeclarator, no_declarator, more_declarator, BindingIdentifier, some_expr, none_expr}
+use Rattle.js_tree.specs.Plain.{Stmt, Block, VariableDeclaration, Expression, If, While, Stmts, no_stmt, more_stmt, none_stmt, some_stmt, File, MakeFile}
+use Rattle.js_tree.specs.Plain.{MakeDeclarator, no_declarator, more_declarator, BindingIdentifier, some_expr}
 use Rattle.js_value.specs.declared.value.Kind.TheVariants as kind
-use Rattle.js_value.specs.State.{Entered, Store}
+use Rattle.js_value.specs.State.{Entered}
 use Rattle.js_meaning.specs.declared.outcome.End.{End}
 use Rattle.js_meaning.specs.declared.outcome.End.TheVariants.{Done, Threw, Range, Going}
-use Rattle.js_meaning.specs.Program.{Source, Sources}
-use Rattle.js_meaning.specs.World.{World, world, PlainRun, plain, entered}
+use Rattle.js_meaning.specs.Program.{Sources}
+use Rattle.js_meaning.specs.World.{world, PlainRun, plain}
 
 -- Trees
 

@@ -1,15 +1,15 @@
 -- How a program runs: its end, what it prints, and what it enters, with so many steps.
-use Rattle.std.specs.Prelude.{ℕ, zero, suc, ◌+◌, Bool, true, false, ◌&&◌, List, [], ◌∷◌, ◌++◌, Option, Some, None, nat_eq, codes, if◌then◌else◌, option_map}
+use Rattle.std.specs.Prelude.{ℕ, suc, ◌+◌, Bool, ◌&&◌, List, [], ◌∷◌, ◌++◌, Option, Some, None, nat_eq, codes, if◌then◌else◌, option_map}
 use Rattle.js_value.specs.declared.value.Value.{Value}
 use Rattle.js_value.specs.declared.value.Value.TheVariants as value
 use Rattle.js_value.specs.declared.value.Primitive.TheVariants as primitive
 use Rattle.js_value.specs.Operators.{text_of_primitive}
-use Rattle.js_value.specs.State.{ObjectKind, Plain, Array, Error, RegExp, BuiltIn, Written, Entered, Store}
+use Rattle.js_value.specs.State.{ObjectKind, Error, BuiltIn, Written, Entered, Store}
 use Rattle.js_value.specs.Objects.{kind_of, get}
 use Rattle.js_value.specs.Host.{utf8_of}
-use Rattle.js_value.specs.Realm.{realm, undefined}
+use Rattle.js_value.specs.Realm.{realm}
 use Rattle.js_meaning.specs.declared.outcome.Completion.{Completion}
-use Rattle.js_meaning.specs.declared.outcome.Completion.TheVariants.{Normal, Break, Continue, Return, Throw}
+use Rattle.js_meaning.specs.declared.outcome.Completion.TheVariants.{Throw}
 use Rattle.js_meaning.specs.declared.outcome.Outcome.{Outcome}
 use Rattle.js_meaning.specs.declared.outcome.Outcome.TheVariants.{Completes, Refuses, Stops}
 use Rattle.js_meaning.specs.declared.outcome.End.{End}

@@ -8,7 +8,7 @@ use Rattle.js_tree.specs.declared.operators.BinaryOperator.{BinaryOperator}
 use Rattle.js_tree.specs.declared.operators.BinaryOperator.TheVariants as binary
 use Rattle.js_tree.specs.declared.operators.VariableKind.TheVariants as variable
 use Rattle.js_tree.specs.Plain.{Expr, Exprs, IdentifierReference, NullLiteral, BooleanLiteral, NumericLiteral, StringLiteral, Parenthesized, Call, Binary, Assignment, no_expr, more_expr, Stmt, Stmts, Directive, Block, VariableDeclaration, Empty, Expression, If, While, no_stmt, more_stmt, none_stmt, some_stmt, none_expr, some_expr, Declarator, MakeDeclarator, Declarators, no_declarator, more_declarator, BindingIdentifier, File, MakeFile}
-use Rattle.js_text.specs.Token.{Token, Kind, Word, Numeral, End}
+use Rattle.js_text.specs.Token.{Token, Word, Numeral, End}
 use Rattle.js_text.specs.Token as T
 use Rattle.js_text.specs.declared.punctuator.Punctuator.{Punctuator}
 use Rattle.js_text.specs.declared.punctuator.Punctuator.TheVariants as P

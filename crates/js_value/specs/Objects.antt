@@ -1,6 +1,6 @@
 -- What can be done with objects (ECMA-262, 10.1 and 10.4.2): nothing else reads or changes one. What changes the store is
 -- given it last; what an operation answers is told apart, from the store before.
-use Rattle.std.specs.Prelude.{ℕ, zero, suc, ◌+◌, ◌-◌, Bool, true, false, not, ◌&&◌, List, [], ◌∷◌, ◌++◌, length, filter, find, Option, Some, None, option_map, nat_lt, nat_eq, if◌then◌else◌, slice_index_or, slice_set, codes, pos, negsuc}
+use Rattle.std.specs.Prelude.{ℕ, zero, suc, ◌+◌, Bool, true, false, not, ◌&&◌, List, [], ◌∷◌, ◌++◌, length, filter, find, Option, Some, None, option_map, nat_lt, nat_eq, if◌then◌else◌, slice_index_or, slice_set, codes, pos, negsuc}
 use Rattle.std.specs.Str.{bytes_eq}
 use Rattle.js_value.specs.declared.value.Value.{Value}
 use Rattle.js_value.specs.declared.value.Value.TheVariants as value
