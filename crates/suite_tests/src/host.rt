@@ -1,4 +1,5 @@
 // The edge to the host: files in a folder of the test's own, and writers that fail.
+use crate::reads::{fails, holds, lacks, length};
 use cov_base::{Failed, HostSink, HostStore, LONGEST_READ, Memory, Sink, Store, write_all};
 use std::alloc::Global;
 use std::test::Fail;
@@ -48,24 +49,19 @@ fn long_file(alloc: Global) -> Result<Vec<u8>, Memory> {
 fn files_are_put_and_read(rt: HostRuntime) -> Result<(), Fail> {
     let mut store = HostStore::new(&rt);
 
-    assert_eq!(rt; store.read("cov_base_host_edge/missing"), Ok(None));
+    assert!(rt; lacks(&mut store, "cov_base_host_edge/missing"));
     assert_eq!(rt; store.put("cov_base_host_edge/a/b/c.js", b"let c;"), Ok(()));
-    let found = store.read("cov_base_host_edge/a/b/c.js")?;
-    assert_eq!(rt;
-        found.as_ref().map(|bytes| bytes.as_slice()),
-        Some(b"let c;".as_slice())
-    );
+    assert!(rt; holds(&mut store, "cov_base_host_edge/a/b/c.js", b"let c;"));
     assert_eq!(rt; store.put("cov_base_host_edge/a/b/c.js", b""), Ok(()));
-    let emptied = store.read("cov_base_host_edge/a/b/c.js")?;
-    assert_eq!(rt; emptied.as_ref().map(|bytes| bytes.len()), Some(0));
+    assert!(rt; holds(&mut store, "cov_base_host_edge/a/b/c.js", b""));
 
     // a folder on the way is a file; a folder is neither read nor put
-    assert_eq!(rt; store.read("cov_base_host_edge/a/b/c.js/d"), Ok(None));
+    assert!(rt; lacks(&mut store, "cov_base_host_edge/a/b/c.js/d"));
     assert_eq!(rt;
         store.put("cov_base_host_edge/a/b/c.js/d", b""),
         Err(Failed::Device)
     );
-    assert_eq!(rt; store.read("cov_base_host_edge/a"), Err(Failed::Device));
+    assert!(rt; fails(&mut store, "cov_base_host_edge/a"));
     assert_eq!(rt; store.put("cov_base_host_edge/a", b""), Err(Failed::Device));
     fs::remove_dir_all(&rt, FOLDER)?;
     Ok(())
@@ -77,9 +73,9 @@ fn a_long_file_is_cut(rt: HostRuntime) -> Result<(), Fail> {
     let bytes = long_file(rt.alloc())?;
 
     assert_eq!(rt; store.put("cov_base_long_file", bytes.as_slice()), Ok(()));
-    let found = store.read("cov_base_long_file")?;
+    let count = length(&mut store, "cov_base_long_file");
     fs::remove_file(&rt, "cov_base_long_file")?;
-    assert_eq!(rt; found.as_ref().map(|bytes| bytes.len()), Some(16_777_217));
+    assert_eq!(rt; count, Some(16_777_217));
     Ok(())
 }
 

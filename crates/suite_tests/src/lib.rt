@@ -5,6 +5,8 @@
 #[cfg(test)]
 mod host;
 #[cfg(test)]
+mod reads;
+#[cfg(test)]
 mod runs;
 #[cfg(test)]
 mod sinks;
