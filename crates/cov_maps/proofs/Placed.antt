@@ -2,7 +2,7 @@
 use Rattle.std.proofs.Common.{◌≡◌, ℕ, ◌+◌, ◌<◌, List, [], ◌∷◌, ◌++◌, Option, Some, None, false, refl, sym, subst, arith}
 use Rattle.std.specs.Option.{option_map}
 use Rattle.js_tree.specs.declared.place.Loc.{Loc}
-use Rattle.js_tree.specs.Plain.{Expr, Exprs, Stmt, Stmts, Declarator, Declarators, File}
+use Rattle.js_tree.specs.Plain.{Expr, Exprs, Stmt, Stmts, Declarator, Declarators, File, MakeFile}
 use Rattle.js_tree.specs.declared.construct.Construct.{Construct}
 use Rattle.js_tree.specs.declared.construct.Construct.TheVariants as construct
 use Rattle.js_walk.specs.Constructs.{bare_place, stmt_place, counted, own_construct, chained_in, constructs_expr, constructs_stmt, constructs_declarator, constructs_file, named, number_after, all_named}
@@ -11,10 +11,10 @@ use Rattle.js_text.specs.Place.{Place}
 use Rattle.js_text.specs.Position.{position_of}
 use Rattle.js_text.specs.declared.goal.Goal.{Goal}
 use Rattle.js_text.specs.Token.{Kind, Token}
-use Rattle.js_text.specs.Lex.{token_after, token_of, token_place, gap_run, moved, next_token}
+use Rattle.js_text.specs.Lex.{token_after, token_of, token_place, moved, next_token}
 use Rattle.js_text.specs.Grammar
 use Rattle.js_text.specs.Grammar.{through, SpellsExpr, reference, null_literal, true_literal, false_literal, number, string, parentheses, call, operation, assigns, SpellsArguments, no_argument, last_argument, more_arguments, SpellsDeclarator, plain, initialized, SpellsDeclarators, one, more, SpellsStmt, block, var, empty, expression, if_only, if_else, SpellsStmts, no_statement, more_statements, SpellsBody, directive, statements, Sentence, file}
-use Rattle.js_text.specs.Reads.{goal_of, Lexes, no_token, one_more, Reads}
+use Rattle.js_text.specs.Reads.{goal_of, Lexes, no_token, one_more, without_comments, Reads}
 use Rattle.cov_maps.specs.Placed.{IsPlaced, IsPlacedIf, ArePlaced}
 
 -- what is in lists of nodes
@@ -43,10 +43,10 @@ same_place t token p after e h =
 
 token_placed : (goal : Goal) (place : Place) (token : Token) (after : Place) → next_token goal place ≡ Some (token, after) → IsPlaced token.loc
 token_placed goal place token after e = by_kind (token_of goal (token_place goal place).after) e where
-  by_kind : (found : Option (Kind × ℕ)) → option_map {U = Token × Place} (λ found. (token_after found.0 (gap_run goal place) place (moved found.1 (token_place goal place)), moved found.1 (token_place goal place))) found ≡ Some (token, after) → IsPlaced token.loc
+  by_kind : (found : Option (Kind × ℕ)) → option_map {U = Token × Place} (λ found. (token_after goal found.0 place (moved found.1 (token_place goal place)), moved found.1 (token_place goal place))) found ≡ Some (token, after) → IsPlaced token.loc
   by_kind None e = absurd cc
   by_kind (Some f) e =
-      same_place (token_after f.0 (gap_run goal place) place (moved f.1 (token_place goal place))) token (moved f.1 (token_place goal place)) after e (line_placed _, line_placed _)
+      same_place (token_after goal f.0 place (moved f.1 (token_place goal place))) token (moved f.1 (token_place goal place)) after e (line_placed _, line_placed _)
 
 lexed_placed : {place end : Place} {tokens : List Token} → Lexes place tokens end → AreTokensPlaced tokens
 lexed_placed no_token = tt
@@ -77,7 +77,7 @@ mutual
   expr_none (null_literal is) = refl
   expr_none (true_literal is) = refl
   expr_none (false_literal is) = refl
-  expr_none (number is) = refl
+  expr_none (number is numeral) = refl
   expr_none (string is) = refl
   expr_none (parentheses opening closing is_opening is_closing d) = expr_none d
   expr_none (call opening closing is_opening is_closing high d ds) = both_none (expr_none d) (arguments_none ds)
@@ -94,7 +94,7 @@ expr_placed (reference is free) h = h.0
 expr_placed (null_literal is) h = h.0
 expr_placed (true_literal is) h = h.0
 expr_placed (false_literal is) h = h.0
-expr_placed (number is) h = h.0
+expr_placed (number is numeral) h = h.0
 expr_placed (string is) h = h.0
 expr_placed (parentheses {te = te} opening closing is_opening is_closing d) h = (h.0.0, (tokens_right te (closing ∷ []) h.1).0.1)
 expr_placed (call {tf = tf} {ts = ts} opening closing is_opening is_closing high d ds) h =
@@ -111,7 +111,7 @@ bare_placed (reference is free) h = h.0
 bare_placed (null_literal is) h = h.0
 bare_placed (true_literal is) h = h.0
 bare_placed (false_literal is) h = h.0
-bare_placed (number is) h = h.0
+bare_placed (number is numeral) h = h.0
 bare_placed (string is) h = h.0
 bare_placed (parentheses {te = te} opening closing is_opening is_closing d) h = bare_placed d (tokens_left te _ h.1)
 bare_placed (call opening closing is_opening is_closing high d ds) h = expr_placed (call opening closing is_opening is_closing high d ds) h
@@ -197,6 +197,10 @@ named_placed before (construct.Statement loc ∷ xs) h = (h.0, named_placed befo
 named_placed before (construct.Function name declared body ∷ xs) h = (h.0, named_placed (before + 1) xs h.1)
 named_placed before (construct.Branch kind loc paths ∷ xs) h = (h.0, named_placed before xs h.1)
 
+-- nor do comments
+walked_so : (tree : File) → walk_file own_construct chained_in (without_comments tree) false ≡ walk_file own_construct chained_in tree false
+walked_so (MakeFile body comments) = refl
+
 -- the tree of a text
 pub reads_placed : {text : List ℕ} {tree : File} → Reads text tree → ArePlaced (constructs_file tree)
-reads_placed {tree = tree} r = named_placed 0 (walk_file own_construct chained_in tree false) (sentence_placed r.sentence (lexed_placed r.lexed))
+reads_placed {tree = tree} r = named_placed 0 (walk_file own_construct chained_in tree false) (subst ArePlaced (walked_so tree) (sentence_placed r.sentence (lexed_placed r.lexed)))

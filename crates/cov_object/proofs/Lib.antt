@@ -1,7 +1,15 @@
 pub mod Files
+pub mod DigitIds
+pub mod IdOrder
 pub mod Numbers
 pub mod OrderLemmas
 pub mod PieceLemmas
 pub mod Plain
+pub mod ReadBack
+pub mod ReadFiles
+pub mod ReadLemmas
 pub mod Sample
+pub mod Readable
+pub mod ReadText
+pub mod SourceMaps
 pub mod WriteLemmas

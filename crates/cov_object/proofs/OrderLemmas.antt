@@ -1,5 +1,5 @@
 -- The order of the numbers by their digits.
-use Rattle.std.proofs.Common.{◌≡◌, ℕ, Bool, true, List, [], ◌∷◌, ◌++◌, map, fold, refl, sym, ap, ◌∙◌, append_assoc}
+use Rattle.std.proofs.Common.{◌≡◌, ℕ, Bool, true, List, [], ◌∷◌, ◌++◌, map, fold, refl, ap, ◌∙◌, append_assoc}
 use Rattle.std.specs.Prelude.{decimal, String, string_bytes}
 use Rattle.std.specs.Borrow.{Bor}
 use Rattle.std.specs.Ordering.{nat_cmp, match_ordering}
@@ -9,7 +9,7 @@ use Rattle.std.specs.Cmp.Lexicographic.{slice_cmp}
 use Rattle.std.specs.BTreeMap.{insert_entry}
 use Rattle.std.specs.String.{string_cmp}
 use Rattle.std.specs.declared.alloc.Global.{Global}
-use Rattle.serde_json.specs.Data.{Data, object, Members, no_members, member, put}
+use Rattle.serde_json.specs.Data.{Data, object, Members, member, put}
 use Rattle.serde_json.specs.Written.{compact_text}
 use Rattle.cov_object.specs.Json.{numbered}
 use Rattle.cov_object.specs.private.Order.{put_in, in_key_order, members_of}

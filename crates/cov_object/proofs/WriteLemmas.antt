@@ -148,14 +148,14 @@ file-pieces file branches functions statements o0 o1 o2 o3 o4 o5 o6 o7 o8 b f s 
 -- ---- the files, one after another
 
 -- a file beside its path
-abbrev entry : FileCoverage → List ℕ × Data
+abbrev pub entry : FileCoverage → List ℕ × Data
 entry file = (file.path, file_data file)
 
-abbrev put_entry : Members → List ℕ × Data → Members
+abbrev pub put_entry : Members → List ℕ × Data → Members
 put_entry placed entry = put entry.0 entry.1 placed
 
 -- the members of these files, as the files stand
-abbrev in_turn : List FileCoverage → Members
+abbrev pub in_turn : List FileCoverage → Members
 in_turn [] = no_members
 in_turn (file ∷ files) = member file.path (file_data file) (in_turn files)
 
@@ -169,7 +169,7 @@ stays_first k d ms (file ∷ files) all =
     ap (λ o. fold put_entry (match_ordering o (member path (file_data file) (member k d ms)) (member k (file_data file) ms) (member k d (put path (file_data file) ms))) (map entry files)) after
     ∙ stays_first k d (put path (file_data file) ms) files all.1
 
-by_key-in_turn : (files : List FileCoverage) → AreInOrder files → by_key (map entry files) ≡ in_turn files
+pub by_key-in_turn : (files : List FileCoverage) → AreInOrder files → by_key (map entry files) ≡ in_turn files
 unfolding IsStrictlySortedBy
 by_key-in_turn [] ordered = refl
 by_key-in_turn (file ∷ files) ordered =

@@ -4,6 +4,7 @@ use Rattle.std.specs.Ordering.{nat_cmp, match_ordering}
 use Rattle.std.specs.Cmp.Lexicographic.{slice_cmp}
 use Rattle.std.specs.List.Sorted.{IsStrictlySortedBy}
 use Rattle.std.specs.declared.alloc.Global.{Global}
+use Rattle.cov_object.specs.Numbered.{AreSmall}
 use Rattle.cov_object.specs.declared.file.FileCoverage.{FileCoverage}
 
 -- the files with this one, which takes the place of one with its path
@@ -22,6 +23,11 @@ found path (file ∷ rest) =
 -- each path's bytes come before those of every later path
 abbrev pub AreInOrder : List FileCoverage → Type 0
 AreInOrder files = IsStrictlySortedBy (slice_cmp nat_cmp) (map (λ file. file.path) files)
+
+-- each id of a statement, a function or a branch is below 2^32, as those that are read are
+abbrev pub HaveSmallIds : List FileCoverage → Type 0
+HaveSmallIds [] = Unit {0}
+HaveSmallIds (file ∷ files) = (AreSmall file.statements × AreSmall file.functions × AreSmall file.branches) × HaveSmallIds files
 
 -- ---- for private facts
 

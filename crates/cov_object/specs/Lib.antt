@@ -3,4 +3,5 @@ pub mod Json
 pub mod Location
 pub mod Numbered
 pub mod private
+pub mod Read
 pub mod SourceMapText

@@ -1,3 +1,4 @@
 pub mod Counted
+pub mod Formed
 pub mod Order
 pub mod Piece

@@ -2,7 +2,13 @@
 #![tactic(auto)]
 
 mod counted;
+mod described;
+mod fault;
 mod file;
+mod floats;
+mod formed;
+mod from_value;
+mod ids;
 mod list;
 mod location;
 mod map;
@@ -11,14 +17,18 @@ mod numbered;
 mod objects;
 mod order;
 mod piece;
+mod read;
 mod source_map_text;
+mod things;
 mod value;
 mod write;
 
+pub use fault::CoverageFault;
 pub use file::{BranchCoverage, FileCoverage, FunctionCoverage, PathCoverage, StatementCoverage};
 pub use location::{Location, Position};
 pub use map::CoverageMap;
 pub use number::{Count, Line};
 pub use numbered::Numbered;
+pub use read::read_json;
 pub use source_map_text::SourceMapText;
 pub use write::write_json;

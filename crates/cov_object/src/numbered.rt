@@ -38,6 +38,14 @@ impl<T> Numbered<T> {
         }
     }
 
+    // Things that stand in the order of their ids.
+    pub(crate) fn from_ordered(things: Vec<(u64, T)>) -> Numbered<T>
+        requires { Ascends things.items }
+        ensures { result ≡ things.items }
+    {
+        Numbered { things }
+    }
+
     /// The things, each beside its id, lent.
     pub fn as_slice(&self) -> &[(u64, T)]
         ensures value { result.now ≡ self.now }

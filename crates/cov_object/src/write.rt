@@ -1,9 +1,12 @@
-ghost use Rattle.std.specs.Prelude.{◌≡◌, ◌++◌, IfOk, OnOk};
+ghost use Rattle.std.specs.Prelude.{◌≡◌, ◌≤◌, ◌++◌, length, Ok, IfOk, OnOk};
+ghost use Rattle.cov_object.specs.Files.{HaveSmallIds};
+ghost use Rattle.cov_object.specs.Read.{most_bytes, coverage_of};
 ghost use Rattle.serde_json.specs.Written.{compact_text};
 ghost use Rattle.cov_object.specs.Json as spec;
 ghost use Rattle.cov_object.specs.private.Piece.{hash_text, source_map_text};
 
 use crate::file::FileCoverage;
+use crate::formed::look_at_file;
 use crate::map::CoverageMap;
 use crate::objects::push_counted;
 use crate::piece::{push_key, push_text};
@@ -12,14 +15,18 @@ use items::{Memory, Text};
 use std::alloc::Global;
 
 /// The JSON of a coverage map, with no space: an object from each file's path to its coverage, the
-/// members of every object in the byte order of their keys. Want of memory is the only error.
+/// members of every object in the byte order of their keys. Where every id is below 2^32 and the text
+/// isn't over 16 MiB, `read_json` reads it to the same map. Want of memory is the only error.
 pub fn write_json(alloc: Global, map: &CoverageMap) -> Result<Vec<u8>, Memory>
-    ensures { IfOk result (λ text. text.items ≡ spec.json_text map.now) }
+    ensures text { IfOk result (λ text. text.items ≡ spec.json_text map.now) }
+    ensures reads_back { IfOk result (λ text. HaveSmallIds map.now → length text.items ≤ most_bytes
+        → coverage_of text.items ≡ Ok map.now) }
 {
     let mut out = Vec::new(alloc);
     out.push(b'{')?;
     let mut later = false;
     for file in map.files() {
+        look_at_file(file);
         push_key(alloc, &mut out, later, file.path.as_str())?;
         push_file(alloc, &mut out, file)?;
         later = true;

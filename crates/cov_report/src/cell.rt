@@ -4,7 +4,7 @@ ghost use Rattle.cov_summary.specs.Sums.{AreExact};
 ghost use Rattle.cov_summary.specs.Totals.{IsExact};
 ghost use Rattle.cov_report.specs.Table as spec;
 
-use crate::percent::percent;
+use crate::percent::percent_of;
 use crate::piece::{push_printed, push_text};
 use cov_summary::{Sums, Totals, hundredths};
 use items::Memory;
@@ -61,7 +61,7 @@ fn push_percent(
     requires { IsExact totals }
     ensures { OnOk result (out.new.items ≡ out.old.items ++ spec.percent_cell places totals) }
 {
-    let text = percent(alloc, hundredths(totals.covered, totals.total))?;
+    let text = percent_of(alloc, hundredths(totals.covered, totals.total))?;
     push_many(out, b' ', places.saturating_sub(text.len()))?;
     push_text(out, text.as_str())
 }

@@ -12,5 +12,6 @@ mod table;
 
 pub use json_report::json;
 pub use lcov_report::lcov;
+pub use percent::percent_of;
 pub use summary_report::json_summary;
 pub use table::text;

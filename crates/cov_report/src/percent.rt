@@ -4,8 +4,8 @@ ghost use Rattle.cov_report.specs.Percent.{percent_text};
 use items::Memory;
 use std::alloc::Global;
 
-// A percentage that is told in hundredths, as a decimal without zeros at its end.
-pub(crate) fn percent(alloc: Global, hundredths: u64) -> Result<String, Memory>
+/// A percentage that is told in hundredths, as a decimal without zeros at its end, or want of memory.
+pub fn percent_of(alloc: Global, hundredths: u64) -> Result<String, Memory>
     ensures { IfOk result (λ text. string_bytes text ≡ percent_text hundredths) }
 {
     let whole = hundredths / 100;

@@ -4,7 +4,7 @@ ghost use Rattle.cov_summary.specs.Sums.{AreExact};
 ghost use Rattle.cov_summary.specs.Totals.{IsExact};
 ghost use Rattle.cov_report.specs.JsonSummary as spec;
 
-use crate::percent::percent;
+use crate::percent::percent_of;
 use crate::piece::{push_number, push_quoted, push_text};
 use cov_object::CoverageMap;
 use cov_summary::{FileSums, Sums, Totals, hundredths, summary};
@@ -86,7 +86,7 @@ fn push_totals(alloc: Global, out: &mut Vec<u8>, totals: Totals) -> Result<(), M
     requires { IsExact totals }
     ensures { OnOk result (out.new.items ≡ out.old.items ++ spec.totals_text totals) }
 {
-    let part = percent(alloc, hundredths(totals.covered, totals.total))?;
+    let part = percent_of(alloc, hundredths(totals.covered, totals.total))?;
     push_number_member(alloc, out, "{\"total\":", totals.total)?;
     push_number_member(alloc, out, ",\"covered\":", totals.covered)?;
     push_text(out, ",\"skipped\":0,\"pct\":")?;

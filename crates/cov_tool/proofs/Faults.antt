@@ -9,11 +9,12 @@ use Rattle.js_text.specs.Reads.{NoTree, TooHigh}
 use Rattle.js_scopes.specs.Accepted.{Accepted}
 use Rattle.js_scopes.specs.Checks.{first_reserved}
 use Rattle.cov_base.specs.Store.{Held}
-use Rattle.cov_words.specs.Words.{Request, command_of}
+use Rattle.cov_words.specs.declared.command.SourceTask.{SourceTask}
 use Rattle.cov_tool.specs.Line as said
-use Rattle.cov_tool.specs.Program as P
-use Rattle.cov_tool.specs.Program.{Finds, IsRefused, IsDue, PrintsAll, IsRefusal, IsMessage, file_of}
-use Rattle.cov_tool.specs.private.Cause.{Holds, HasOnly, IsCause, message_at, status_of}
+use Rattle.cov_tool.specs.Source as S
+use Rattle.cov_tool.specs.Source.{Holds, IsRefused, IsDue, IsRefusal, IsMessage}
+use Rattle.cov_tool.specs.Program.{PrintsAll}
+use Rattle.cov_tool.specs.private.Cause.{HasOnly, IsCause, message_at, status_of}
 use Rattle.cov_tool.specs.declared.fault.Fault.{Fault}
 use Rattle.cov_tool.specs.declared.fault.Fault.TheVariants as fault
 
@@ -38,48 +39,44 @@ broken bytes place tree only rule other accepted =
     let same : first_reserved other ≡ first_reserved tree = ap first_reserved (only other accepted.reads) in
     let unbroken : first_reserved other ≡ None = accepted.unbroken in cc
 
--- ---- the words ask this of a store that tells this
+-- ---- of a task on a file
 
-module _ (words : List (List ℕ)) (told : Option Held) (request : Request) (named : command_of words ≡ Some request) where
-  pub finds : {found : Option (List ℕ)} → Holds told (file_of request) found → Finds words told request found
-  finds held = record { named = named; held = held }
-
+module _ (task : SourceTask) (path : List ℕ) (told : Option Held) where
   -- bytes that are refused
-  refused : {bytes : List ℕ} → Holds told (file_of request) (Some bytes) → length bytes ≤ source_limits.bytes → IsNoSource bytes → IsRefused words told request bytes
-  refused held within never = record { finds = finds held; within = within; no_source = never }
+  refused : {bytes : List ℕ} → Holds told path (Some bytes) → length bytes ≤ source_limits.bytes → IsNoSource bytes → IsRefused path told bytes
+  refused held within never = record { held = held; within = within; no_source = never }
 
-  pub fault_is_due : (why : Fault) → IsCause why told request → IsDue (status_of (message_at why (file_of request))) words told
-  fault_is_due fault.NoFile cause = (request, finds cause)
-  fault_is_due fault.ReadFailed cause = (request, named)
-  fault_is_due fault.TooLong cause = (request, record { bytes = cause.0; finds = finds cause.1; longer = cause.2 })
-  fault_is_due (fault.NotUtf8 n) cause = (request, cause.0, refused cause.1 cause.2.0 (not_utf8 cause.0 cause.2.1))
-  fault_is_due (fault.Syntax place) cause = (request, cause.0, refused cause.1 cause.2.0 (no_tree cause.0 cause.2.2.0 cause.2.2.1))
-  fault_is_due (fault.TooDeep place) cause = (request, cause.0, refused cause.1 cause.2.0 (too_high cause.0 cause.2.2.0 cause.2.2.1))
-  fault_is_due (fault.Reserved place) cause = (request, cause.0, refused cause.1 cause.2.0 (broken cause.0 place cause.2.2.0 cause.2.2.2 cause.2.2.4))
-  fault_is_due fault.WriteFailed cause = (request, cause.0, cause.1, record { finds = finds cause.2; accepted = cause.3 })
+  pub fault_is_due : (why : Fault) → IsCause why told path → IsDue (status_of (message_at why path)) task path told
+  fault_is_due fault.NoFile cause = cause
+  fault_is_due fault.ReadFailed cause = tt
+  fault_is_due fault.TooLong cause = record { bytes = cause.0; held = cause.1; longer = cause.2 }
+  fault_is_due (fault.NotUtf8 n) cause = (cause.0, refused cause.1 cause.2.0 (not_utf8 cause.0 cause.2.1))
+  fault_is_due (fault.Syntax place) cause = (cause.0, refused cause.1 cause.2.0 (no_tree cause.0 cause.2.2.0 cause.2.2.1))
+  fault_is_due (fault.TooDeep place) cause = (cause.0, refused cause.1 cause.2.0 (too_high cause.0 cause.2.2.0 cause.2.2.1))
+  fault_is_due (fault.Reserved place) cause = (cause.0, refused cause.1 cause.2.0 (broken cause.0 place cause.2.2.0 cause.2.2.2 cause.2.2.4))
+  fault_is_due fault.WriteFailed cause = (cause.0, cause.1, record { held = cause.2; accepted = cause.3 })
   fault_is_due fault.OutOfMemory cause = tt
 
-  -- of a file that is refused: the line is that of the place
-  refused_message : {bytes : List ℕ} {message : said.Message} → IsRefused words told request bytes → IsRefusal (file_of request) bytes message →
-      (request : Request) × (bytes : List ℕ) × IsRefused words told request bytes × IsRefusal (file_of request) bytes message
-  refused_message {bytes = bytes} is refusal = (request, bytes, is, refusal)
+  refused_message : {bytes : List ℕ} {message : said.Message} → IsRefused path told bytes → IsRefusal path bytes message →
+      (bytes : List ℕ) × IsRefused path told bytes × IsRefusal path bytes message
+  refused_message {bytes = bytes} refused is = (bytes, refused, is)
 
-  pub fault_message : (why : Fault) → IsCause why told request → IsMessage (status_of (message_at why (file_of request))) words told (message_at why (file_of request))
-  fault_message fault.NoFile cause = (request, finds cause, refl)
-  fault_message fault.ReadFailed cause = (request, named, refl)
-  fault_message fault.TooLong cause = (request, record { bytes = cause.0; finds = finds cause.1; longer = cause.2 }, refl)
+  pub fault_message : (why : Fault) → IsCause why told path → IsMessage (status_of (message_at why path)) task path told (message_at why path)
+  fault_message fault.NoFile cause = (cause, refl)
+  fault_message fault.ReadFailed cause = refl
+  fault_message fault.TooLong cause = (record { bytes = cause.0; held = cause.1; longer = cause.2 }, refl)
   fault_message (fault.NotUtf8 n) cause =
       refused_message (refused cause.1 cause.2.0 (not_utf8 cause.0 cause.2.1))
-      (subst (λ k. IsRefusal (file_of request) cause.0 (said.NotUtf8 (file_of request) k)) (sym cause.2.2) (P.not_utf8 cause.2.1))
+      (subst (λ k. IsRefusal path cause.0 (said.NotUtf8 path k)) (sym cause.2.2) (S.not_utf8 cause.2.1))
   fault_message (fault.Syntax place) cause =
       refused_message (refused cause.1 cause.2.0 (no_tree cause.0 cause.2.2.0 cause.2.2.1))
-      (subst (λ k. IsRefusal (file_of request) cause.0 (said.Syntax (file_of request) k)) (sym cause.2.2.2) (P.syntax {at = cause.2.2.0} cause.2.1 cause.2.2.1))
+      (subst (λ k. IsRefusal path cause.0 (said.Syntax path k)) (sym cause.2.2.2) (S.syntax {at = cause.2.2.0} cause.2.1 cause.2.2.1))
   fault_message (fault.TooDeep place) cause =
       refused_message (refused cause.1 cause.2.0 (too_high cause.0 cause.2.2.0 cause.2.2.1))
-      (subst (λ k. IsRefusal (file_of request) cause.0 (said.TooDeep (file_of request) k)) (sym cause.2.2.2) (P.too_deep {at = cause.2.2.0} cause.2.1 cause.2.2.1))
+      (subst (λ k. IsRefusal path cause.0 (said.TooDeep path k)) (sym cause.2.2.2) (S.too_deep {at = cause.2.2.0} cause.2.1 cause.2.2.1))
   fault_message (fault.Reserved place) cause =
       refused_message (refused cause.1 cause.2.0 (broken cause.0 place cause.2.2.0 cause.2.2.2 cause.2.2.4))
-      (P.reserved {tree = cause.2.2.0} cause.2.1 cause.2.2.1 cause.2.2.3 cause.2.2.4)
+      (S.reserved {tree = cause.2.2.0} cause.2.1 cause.2.2.1 cause.2.2.3 cause.2.2.4)
   fault_message fault.WriteFailed cause = refl
   fault_message fault.OutOfMemory cause = refl
 

@@ -29,7 +29,7 @@ unfolding place_after
 token_within goal place between token here = by_found (token_of goal (token_place goal place).after) here
   where
     by_found : (found : Option (Kind × ℕ)) →
-        option_map {U = Token × Place} (λ found. (token_after found.0 (gap_run goal place) place (moved found.1 (token_place goal place)), moved found.1 (token_place goal place))) found ≡ Some (token, between) →
+        option_map {U = Token × Place} (λ found. (token_after goal found.0 place (moved found.1 (token_place goal place)), moved found.1 (token_place goal place))) found ≡ Some (token, between) →
         characters_of between ≡ characters_of place
     by_found None none = absurd cc
     by_found (Some found) some =

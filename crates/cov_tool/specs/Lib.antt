@@ -1,5 +1,7 @@
+pub mod Coverage
 pub mod Hash
 pub mod Line
-pub mod Program
-pub mod Status
 pub mod private
+pub mod Program
+pub mod Source
+pub mod Status

@@ -1,5 +1,12 @@
--- The one line that the program says on standard error.
+-- The lines that the program says on standard error: one, but for percentages that are below their thresholds.
 use Rattle.std.specs.Prelude.{ℕ, List, [], ◌∷◌, ◌++◌, codes, decimal}
+use Rattle.std.specs.List.{flat_map}
+use Rattle.cov_summary.specs.declared.shortfall.Metric.{Metric}
+use Rattle.cov_summary.specs.declared.shortfall.Metric.TheVariants as metric
+use Rattle.cov_summary.specs.declared.shortfall.Shortfall.{Shortfall}
+use Rattle.cov_report.specs.Percent.{percent_text}
+use Rattle.cov_inputs.specs.declared.refusal.What.{What}
+use Rattle.cov_inputs.specs.declared.refusal.What.TheVariants as what
 use Rattle.js_tree.specs.declared.place.Pos.{Pos}
 use Rattle.js_value.specs.declared.value.Kind.{Kind}
 use Rattle.js_value.specs.declared.value.Kind.TheVariants as kind
@@ -21,6 +28,9 @@ pub data Message : Type 0 where
   Uncaught : (shown : List ℕ) → Message
   Range : (why : Kind) → Message
   Going : (turns : ℕ) → Message
+  BadInput : (path : List ℕ) → (what : What) → Message
+  CountTooLarge : (sum : ℕ) → Message
+  Below : (shortfalls : List Shortfall) → Message
 
 -- what a complaint of the code says
 abbrev pub message_of : Complaint → Message
@@ -37,6 +47,9 @@ message_of (complaint.NoFile path) = NoFile path.now
 message_of (complaint.Uncaught shown) = Uncaught shown.now
 message_of (complaint.Range why) = Range why
 message_of (complaint.Going turns) = Going turns
+message_of (complaint.BadInput path what) = BadInput path.now what.now
+message_of (complaint.CountTooLarge sum) = CountTooLarge sum
+message_of (complaint.Below shortfalls) = Below shortfalls.now
 
 -- a file is refused at a place, for this reason
 abbrev pub refused_text : List ℕ → Pos → List ℕ → List ℕ
@@ -49,7 +62,29 @@ kind_text kind.Sparse = codes "Sparse"
 kind_text kind.Convert = codes "Convert"
 kind_text kind.Text = codes "Text"
 
--- a message's bytes, without the line's end
+-- what is wrong with a coverage file
+abbrev pub what_text : What → List ℕ
+what_text what.NotJson = codes "not JSON"
+what_text (what.Member name) = codes "member " ++ name
+what_text (what.Count name) = codes "count " ++ name
+
+-- the word for what is counted
+abbrev pub metric_text : Metric → List ℕ
+metric_text metric.Lines = codes "lines"
+metric_text metric.Statements = codes "statements"
+metric_text metric.Branches = codes "branches"
+metric_text metric.Functions = codes "functions"
+
+-- a percentage that is below its threshold
+abbrev pub shortfall_text : Shortfall → List ℕ
+shortfall_text shortfall =
+    codes "ERROR: Coverage for " ++ metric_text shortfall.what ++ codes " (" ++ percent_text shortfall.hundredths
+    ++ codes "%) does not meet global threshold (" ++ decimal shortfall.threshold ++ codes "%)"
+
+abbrev pub shortfall_line : Shortfall → List ℕ
+shortfall_line shortfall = shortfall_text shortfall ++ 10 ∷ []
+
+-- a message's bytes: of one line without its end, of several with it
 abbrev pub text : Message → List ℕ
 text Usage = codes "Usage: see cov --help"
 text (Syntax path place) = refused_text path place (codes "syntax")
@@ -64,9 +99,13 @@ text (NoFile path) = codes "No file: " ++ path
 text (Uncaught shown) = codes "Uncaught " ++ shown
 text (Range why) = codes "Range refusal: " ++ kind_text why
 text (Going turns) = codes "Still going after " ++ decimal turns ++ codes " steps"
+text (BadInput path what) = codes "Bad input: " ++ path ++ codes ": " ++ what_text what
+text (CountTooLarge sum) = codes "Limit: count " ++ decimal sum
+text (Below shortfalls) = flat_map shortfall_line shortfalls
 
--- the line: the message's bytes, ended by LF
+-- the lines, each ended by LF
 abbrev pub line : Message → List ℕ
+line (Below shortfalls) = text (Below shortfalls)
 line message = text message ++ 10 ∷ []
 
 -- the same for a refusal at a place

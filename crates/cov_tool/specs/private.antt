@@ -1,2 +1,2 @@
--- What the contracts of private functions name: no reader has to believe it.
 pub mod Cause
+pub mod Performed

@@ -1,8 +1,8 @@
 ghost use Rattle.std.specs.Prelude.{◌≡◌, IfOk};
 ghost use Rattle.js_tree.specs.Tree.{plain_file};
 ghost use Rattle.js_text.specs.Reads.{Reads};
-ghost use Rattle.cov_words.specs.Words.{Exec};
-ghost use Rattle.cov_tool.specs.Program.{answer_of};
+ghost use Rattle.cov_words.specs.declared.command.SourceTask.TheVariants.{Exec};
+ghost use Rattle.cov_tool.specs.Source.{answer_of};
 
 use crate::answer::Answer;
 use cov_run::Ran;
@@ -22,7 +22,7 @@ pub(crate) fn exec(
     file: Checked,
 ) -> Result<Answer, Memory>
     requires { Reads text.now (plain_file file) }
-    ensures { IfOk result (λ answer. answer ≡ answer_of (Exec turns path.now) text.now (plain_file file)) }
+    ensures { IfOk result (λ answer. answer ≡ answer_of (Exec turns) path.now text.now (plain_file file)) }
 {
     language();
     let Ran { end, output } = cov_run::exec(alloc, path, file, turns)?;

@@ -1,13 +1,17 @@
-ghost use Rattle.std.specs.Prelude.{◌≡◌, IfOk};
-ghost use Rattle.cov_tool.specs.Line.{line, refused_line, kind_text, message_of, OutOfMemory, NotUtf8, Uncaught};
+ghost use Rattle.std.specs.Prelude.{◌≡◌, ◌++◌, string_bytes, IfOk};
+ghost use Rattle.std.specs.List.{flat_map};
+ghost use Rattle.cov_tool.specs.Line.{line, refused_line, kind_text, metric_text, shortfall_line, what_text, message_of, BadInput, Going, OutOfMemory, NotUtf8, TooLong, Uncaught};
 
+use cov_inputs::What;
+use cov_report::percent_of;
+use cov_summary::{Metric, Shortfall};
 use items::Memory;
 use js_tree::Pos;
 use js_value::Kind;
 use std::alloc::Global;
 
 /// Why the program gives no answer, or how the program that it ran ended.
-#[derive(Clone, Copy, Debug, PartialEq, Eq)]
+#[derive(Clone, Copy, Debug)]
 pub enum Complaint<'a> {
     /// The words of the command line have no reading.
     Usage,
@@ -35,9 +39,16 @@ pub enum Complaint<'a> {
     Range { kind: Kind },
     /// The program would go on after so many steps.
     Going { turns: u64 },
+    /// The file at this path is no coverage file: what is wrong with it.
+    BadInput { path: &'a str, what: &'a What },
+    /// A sum of counts reaches 2^53: it is this.
+    CountTooLarge { sum: u64 },
+    /// These percentages are below their thresholds.
+    Below { shortfalls: &'a [Shortfall] },
 }
 
-/// The line that the program says on standard error, ended by LF, or want of memory.
+/// The lines that the program says on standard error, each ended by LF, or want of memory. Only what is
+/// below thresholds has more than one.
 pub fn line(alloc: Global, complaint: &Complaint<'_>) -> Result<Vec<u8>, Memory>
     ensures { IfOk result (λ bytes. bytes.items ≡ line (message_of complaint.now)) }
 {
@@ -52,16 +63,19 @@ pub fn line(alloc: Global, complaint: &Complaint<'_>) -> Result<Vec<u8>, Memory>
         }
         Complaint::WriteFailed => Vec::from_slice(alloc, "Write failed\n".as_bytes()),
         Complaint::OutOfMemory => Vec::from_slice(alloc, out_of_memory().as_bytes()),
-        Complaint::TooLong { path } => Ok(format!(in alloc; "Limit: {path} bytes\n")?.into_bytes()),
+        Complaint::TooLong { path } => too_long_line(alloc, path),
         Complaint::NoFile { path } => Ok(format!(in alloc; "No file: {path}\n")?.into_bytes()),
         Complaint::Uncaught { shown } => uncaught_line(alloc, shown),
         Complaint::Range { kind } => {
             let kind = kind_text(*kind);
             Ok(format!(in alloc; "Range refusal: {kind}\n")?.into_bytes())
         }
-        Complaint::Going { turns } => {
-            Ok(format!(in alloc; "Still going after {turns} steps\n")?.into_bytes())
+        Complaint::Going { turns } => going_line(alloc, *turns),
+        Complaint::BadInput { path, what } => bad_input_line(alloc, path, what),
+        Complaint::CountTooLarge { sum } => {
+            Ok(format!(in alloc; "Limit: count {sum}\n")?.into_bytes())
         }
+        Complaint::Below { shortfalls } => shortfall_lines(alloc, shortfalls),
     }
 }
 
@@ -80,6 +94,20 @@ fn not_utf8_line(alloc: Global, path: &str, at: usize) -> Result<Vec<u8>, Memory
     Ok(format!(in alloc; "Refused: {path}: not UTF-8 at byte {at}\n")?.into_bytes())
 }
 
+/// The line of a file at a path that has too many bytes.
+fn too_long_line(alloc: Global, path: &str) -> Result<Vec<u8>, Memory>
+    ensures { IfOk result (λ bytes. bytes.items ≡ line (TooLong path.now)) }
+{
+    Ok(format!(in alloc; "Limit: {path} bytes\n")?.into_bytes())
+}
+
+/// The line of a program that would go on after so many steps.
+fn going_line(alloc: Global, turns: u64) -> Result<Vec<u8>, Memory>
+    ensures { IfOk result (λ bytes. bytes.items ≡ line (Going turns)) }
+{
+    Ok(format!(in alloc; "Still going after {turns} steps\n")?.into_bytes())
+}
+
 /// The line of an exception of which these bytes are shown.
 fn uncaught_line(alloc: Global, shown: &[u8]) -> Result<Vec<u8>, Memory>
     ensures { IfOk result (λ bytes. bytes.items ≡ line (Uncaught shown.now)) }
@@ -88,6 +116,71 @@ fn uncaught_line(alloc: Global, shown: &[u8]) -> Result<Vec<u8>, Memory>
     bytes.extend_from_slice(shown)?;
     bytes.push(b'\n')?;
     Ok(bytes)
+}
+
+/// The line of a file at a path that is no coverage file.
+#[tactic(auto, using(crate::proofs::LineLemmas::bad_input))]
+fn bad_input_line(alloc: Global, path: &str, what: &What) -> Result<Vec<u8>, Memory>
+    ensures { IfOk result (λ bytes. bytes.items ≡ line (BadInput path.now what.now)) }
+{
+    let wrong = what_text(alloc, what)?;
+    let wrong = wrong.as_str();
+    Ok(format!(in alloc; "Bad input: {path}: {wrong}\n")?.into_bytes())
+}
+
+/// What is wrong with a coverage file.
+fn what_text(alloc: Global, what: &What) -> Result<String, Memory>
+    ensures { IfOk result (λ text. string_bytes text ≡ what_text what.now) }
+{
+    match what {
+        What::NotJson => String::from_str(alloc, "not JSON"),
+        What::Member { name } => named(alloc, "member ", name.as_str()),
+        What::Count { name } => named(alloc, "count ", name.as_str()),
+    }
+}
+
+/// A word and a name.
+fn named(alloc: Global, word: &str, name: &str) -> Result<String, Memory>
+    ensures { IfOk result (λ text. string_bytes text ≡ word.now ++ name.now) }
+{
+    format!(in alloc; "{word}{name}")
+}
+
+/// A line for each of these percentages.
+fn shortfall_lines(alloc: Global, shortfalls: &[Shortfall]) -> Result<Vec<u8>, Memory>
+    ensures { IfOk result (λ bytes. bytes.items ≡ flat_map shortfall_line shortfalls.now) }
+{
+    let mut lines = Vec::new(alloc);
+    for shortfall in shortfalls {
+        let line = shortfall_line(alloc, shortfall)?;
+        lines.extend_from_slice(line.as_slice())?;
+    }
+    Ok(lines)
+}
+
+/// The line of a percentage that is below its threshold.
+fn shortfall_line(alloc: Global, shortfall: &Shortfall) -> Result<Vec<u8>, Memory>
+    ensures { IfOk result (λ bytes. bytes.items ≡ shortfall_line shortfall.now) }
+{
+    let metric = metric_text(shortfall.what);
+    let percent = percent_of(alloc, shortfall.hundredths)?;
+    let percent = percent.as_str();
+    let threshold = shortfall.threshold;
+    Ok(format!(in alloc;
+        "ERROR: Coverage for {metric} ({percent}%) does not meet global threshold ({threshold}%)\n"
+    )?.into_bytes())
+}
+
+/// The word for what is counted.
+fn metric_text(metric: Metric) -> &'static str
+    ensures { result.now ≡ metric_text metric }
+{
+    match metric {
+        Metric::Lines => "lines",
+        Metric::Statements => "statements",
+        Metric::Branches => "branches",
+        Metric::Functions => "functions",
+    }
 }
 
 /// The word for what a program leaves the profile by.

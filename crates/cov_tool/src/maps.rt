@@ -3,8 +3,8 @@ ghost use Rattle.js_tree.specs.Tree.{plain_file};
 ghost use Rattle.js_walk.specs.Constructs.{constructs_file};
 ghost use Rattle.js_text.specs.Reads.{Reads};
 ghost use Rattle.cov_maps.specs.Placed.{ArePlaced};
-ghost use Rattle.cov_words.specs.Words.{Maps};
-ghost use Rattle.cov_tool.specs.Program as spec;
+ghost use Rattle.cov_words.specs.declared.command.SourceTask.TheVariants.{Maps};
+ghost use Rattle.cov_tool.specs.Source as spec;
 
 use crate::answer::Answer;
 use crate::hash::hash_of;
@@ -41,7 +41,7 @@ fn text_for(alloc: Global, path: &str, text: &Text, list: Vec<Construct>) -> Res
 /// text is made.
 pub(crate) fn maps(alloc: Global, path: &str, text: &Text, file: Checked) -> Result<Answer, Memory>
     requires { Reads text.now (plain_file file) }
-    ensures { IfOk result (λ answer. answer ≡ spec.answer_of (Maps path.now) text.now (plain_file file)) }
+    ensures { IfOk result (λ answer. answer ≡ spec.answer_of Maps path.now text.now (plain_file file)) }
 {
     let list = constructs_of(alloc, file)?;
     let printed = text_for(alloc, path, text, list)?;

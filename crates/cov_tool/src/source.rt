@@ -8,7 +8,8 @@ ghost use Rattle.js_parser.specs.Refused.{RefusesText};
 ghost use Rattle.js_scopes.specs.Accepted.{Accepted};
 ghost use Rattle.js_scopes.specs.Checks.{first_reserved};
 ghost use Rattle.cov_base.specs.Causes.{Rose};
-ghost use Rattle.cov_tool.specs.private.Cause.{Holds, HasOnly, IsReadingFault, IsBytesFault, IsCheckFault};
+ghost use Rattle.cov_tool.specs.Source.{Holds};
+ghost use Rattle.cov_tool.specs.private.Cause.{HasOnly, IsReadingFault, IsBytesFault, IsCheckFault};
 
 use crate::fault::Fault;
 use cov_base::{Failed, Store};

@@ -9,9 +9,11 @@ pub enum Status {
     Usage,
     /// A source isn't accepted.
     Refused,
+    /// A coverage file isn't of the format.
+    BadInput,
     /// The store failed in a read.
     ReadFault,
-    /// Standard output failed in a write.
+    /// Standard output failed in a write, or the store in a put.
     WriteFault,
     /// The program left the profile.
     Range,
@@ -19,8 +21,10 @@ pub enum Status {
     Going,
     /// Want of memory.
     Memory,
-    /// An input is too long.
+    /// An input is too long, or a sum of counts reaches 2^53.
     Limit,
+    /// A percentage is below its threshold.
+    Below,
     /// A file that was named isn't there.
     NoFile,
 }
@@ -38,12 +42,14 @@ impl Status {
             Status::Threw => 1,
             Status::Usage => 2,
             Status::Refused => 3,
+            Status::BadInput => 4,
             Status::ReadFault => 5,
             Status::WriteFault => 6,
             Status::Range => 7,
             Status::Going => 8,
             Status::Memory => 9,
             Status::Limit => 10,
+            Status::Below => 11,
             Status::NoFile => 12,
         }
     }

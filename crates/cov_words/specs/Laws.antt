@@ -1,11 +1,15 @@
 -- What the plain forms ask, for any words: by clap's definitions they are as one would write them down.
-use Rattle.std.specs.Prelude.{◌≡◌, ◌⊎◌, ℕ, true, false, List, [], ◌∷◌, None, option_map, nat_eq, codes}
+use Rattle.std.specs.Prelude.{◌≡◌, ◌⊎◌, ℕ, true, false, List, [], ◌∷◌, Some, None, option_map, nat_eq, codes}
 use Rattle.std.specs.List.{starts_with}
 use Rattle.std.specs.Str.{bytes_eq}
 use Rattle.std.specs.Str.Parse.{digits_value, without_leading_plus}
 use Rattle.clap.specs.ValueTests.{is_unsigned_in}
 use Rattle.cov_words.specs.Path.{source_path}
-use Rattle.cov_words.specs.Words.{Maps, Exec, command_of, max_turns}
+use Rattle.cov_words.specs.declared.command.Command.TheVariants.{OnSource, OnCoverage}
+use Rattle.cov_words.specs.declared.command.SourceTask.TheVariants.{Maps, Exec}
+use Rattle.cov_words.specs.declared.command.CoverageTask.TheVariants.{Merge, Report, Check}
+use Rattle.cov_words.specs.declared.command.Reporter.TheVariants as reporter
+use Rattle.cov_words.specs.Words.{command_of, max_turns}
 
 -- a word that doesn't begin with `-`
 abbrev pub IsPlain : List ℕ → Type 0
@@ -13,16 +17,16 @@ IsPlain word = starts_with nat_eq word (codes "-") ≡ false
 
 -- `maps FILE`
 abbrev pub MapsFile : Type 0
-MapsFile = (file : List ℕ) → IsPlain file → command_of (codes "maps" ∷ file ∷ []) ≡ option_map Maps (source_path file)
+MapsFile = (file : List ℕ) → IsPlain file → command_of (codes "maps" ∷ file ∷ []) ≡ option_map (OnSource Maps) (source_path file)
 
 -- `exec FILE`
 abbrev pub ExecFile : Type 0
-ExecFile = (file : List ℕ) → IsPlain file → command_of (codes "exec" ∷ file ∷ []) ≡ option_map (Exec 1000000) (source_path file)
+ExecFile = (file : List ℕ) → IsPlain file → command_of (codes "exec" ∷ file ∷ []) ≡ option_map (OnSource (Exec 1000000)) (source_path file)
 
 -- `exec --turns N FILE`
 abbrev pub ExecTurns : Type 0
 ExecTurns = (digits file : List ℕ) → IsPlain file → is_unsigned_in 0 max_turns digits ≡ true →
-    command_of (codes "exec" ∷ codes "--turns" ∷ digits ∷ file ∷ []) ≡ option_map (Exec (digits_value 10 (without_leading_plus digits))) (source_path file)
+    command_of (codes "exec" ∷ codes "--turns" ∷ digits ∷ file ∷ []) ≡ option_map (OnSource (Exec (digits_value 10 (without_leading_plus digits)))) (source_path file)
 
 -- N out of range, or no number
 abbrev pub NoTurns : Type 0
@@ -34,7 +38,22 @@ abbrev pub OneFile : Type 0
 OneFile = (name first second : List ℕ) → (name ≡ codes "maps") ⊎ (name ≡ codes "exec") → IsPlain first → IsPlain second →
     command_of (name ∷ first ∷ second ∷ []) ≡ None
 
--- another name than those of the two commands, whatever follows it
+-- `merge --out P FILE`, where P is not empty
+abbrev pub MergeFile : Type 0
+MergeFile = (out file : List ℕ) → IsPlain out → IsPlain file → bytes_eq out [] ≡ false →
+    command_of (codes "merge" ∷ codes "--out" ∷ out ∷ file ∷ []) ≡ Some (OnCoverage (Merge out) (file ∷ []))
+
+-- `report FILE`
+abbrev pub ReportFile : Type 0
+ReportFile = (file : List ℕ) → IsPlain file → command_of (codes "report" ∷ file ∷ []) ≡ Some (OnCoverage (Report reporter.Text) (file ∷ []))
+
+-- `check FILE FILE`, which asks for nothing
+abbrev pub CheckFiles : Type 0
+CheckFiles = (first second : List ℕ) → IsPlain first → IsPlain second → command_of (codes "check" ∷ first ∷ second ∷ [])
+    ≡ Some (OnCoverage (Check (record { lines = None; statements = None; branches = None; functions = None })) (first ∷ second ∷ []))
+
+-- another name than those of the five commands, whatever follows it
 abbrev pub OtherName : Type 0
 OtherName = (name : List ℕ) (words : List (List ℕ)) → IsPlain name → bytes_eq (codes "maps") name ≡ false → bytes_eq (codes "exec") name ≡ false →
+    bytes_eq (codes "merge") name ≡ false → bytes_eq (codes "report") name ≡ false → bytes_eq (codes "check") name ≡ false →
     command_of (name ∷ words) ≡ None

@@ -1,47 +1,67 @@
 -- The words of the command line, those after the program's name:
 --     maps FILE
 --     exec [--turns N] FILE
+--     merge --out P FILE..
+--     report [--reporter R] FILE..
+--     check [--lines N] [--statements N] [--branches N] [--functions N] FILE..
 -- They are read as the kit's clap says: a form is clap's data, `fault_of` says of a form and words what is wrong with them,
 -- and `subcommand_of` the command that they name and what it finds for each of its arguments.
-use Rattle.std.specs.Prelude.{ℕ, true, List, [], ◌∷◌, Option, Some, None, option_map, option_and_then, if◌then◌else◌, codes}
+use Rattle.std.specs.Prelude.{ℕ, true, List, [], ◌∷◌, Option, Some, None, option_map, option_and_then, if◌then◌else◌, nat_le, codes}
 use Rattle.std.specs.Str.{bytes_eq}
 use Rattle.std.specs.Str.Parse.{digits_value, without_leading_plus}
-use Rattle.clap.specs.Walk.{Row, Rule, Text, first_of, is_empty, one_of}
+use Rattle.clap.specs.Lexer.{usize_max}
+use Rattle.clap.specs.Walk.{Row, Rule, Text, all_of, first_of, is_empty, one_of}
 use Rattle.clap.specs.Simple.{App, Shape, new_app, new_rule, on_top, subcommand_of, with_rule, with_subcommand}
 use Rattle.clap.specs.Faults.{fault_of}
 use Rattle.clap.specs.ValueTests.{is_unsigned_in}
 use Rattle.clap.specs.declared.builder.value_parser.ValueParser.TheVariants as parser
-use Rattle.cov_words.specs.declared.words.Command.{Command}
-use Rattle.cov_words.specs.declared.words.Command.TheVariants as command
+use Rattle.cov_summary.specs.declared.shortfall.Thresholds.{Thresholds}
+use Rattle.cov_words.specs.declared.command.Command.{Command}
+use Rattle.cov_words.specs.declared.command.Command.TheVariants.{OnSource, OnCoverage}
+use Rattle.cov_words.specs.declared.command.SourceTask.{SourceTask}
+use Rattle.cov_words.specs.declared.command.SourceTask.TheVariants.{Maps, Exec}
+use Rattle.cov_words.specs.declared.command.CoverageTask.{CoverageTask}
+use Rattle.cov_words.specs.declared.command.CoverageTask.TheVariants.{Merge, Report, Check}
+use Rattle.cov_words.specs.declared.command.Reporter.{Reporter}
+use Rattle.cov_words.specs.declared.command.Reporter.TheVariants as reporter
 use Rattle.cov_words.specs.Path.{source_path}
-
--- what may be asked of the program
-pub data Request : Type 0 where
-  Maps : (file : List ℕ) → Request
-  Exec : (turns : ℕ) → (file : List ℕ) → Request
-
--- what a command of the code asks
-abbrev pub request_of : Command → Request
-request_of (command.Maps file) = Maps file
-request_of (command.Exec turns file) = Exec turns file
 
 -- ---- the forms
 
--- FILE: a word that each command needs
+-- FILE: a word that a command on a source needs
 abbrev pub file_rule : Rule
 file_rule = record (new_rule (codes "file")) { required = true }
+
+-- FILE..: one such word or more
+abbrev pub files_rule : Rule
+files_rule = record file_rule { range = Some (record { start_inclusive = 1; end_inclusive = usize_max }) }
 
 -- the most turns, 2^53 - 1
 abbrev pub max_turns : ℕ
 max_turns = 9007199254740991
 
+-- an option of this name
+abbrev pub option_rule : Text → Rule
+option_rule name = record (new_rule name) { long = Some name }
+
 -- `--turns N`: decimal digits, where `+` may stand first, that write a number from 0 to `max_turns`; a million by default
 abbrev pub turns_rule : Rule
-turns_rule = record (new_rule (codes "turns")) {
-  long = Some (codes "turns");
+turns_rule = record (option_rule (codes "turns")) {
   parser = Some (parser.Unsigned 0 max_turns);
   defaults = codes "1000000" ∷ [];
 }
+
+-- `--out P`, which has to be there
+abbrev pub out_rule : Rule
+out_rule = record (option_rule (codes "out")) { required = true }
+
+-- `--reporter R`, by default `text`
+abbrev pub reporter_rule : Rule
+reporter_rule = record (option_rule (codes "reporter")) { defaults = codes "text" ∷ [] }
+
+-- `--lines N` and its like: a number from 0 to 100
+abbrev pub threshold_rule : Text → Rule
+threshold_rule metric = record (option_rule metric) { parser = Some (parser.Unsigned 0 100) }
 
 abbrev pub maps_form : App
 maps_form = with_rule (new_app (codes "maps")) file_rule
@@ -49,12 +69,32 @@ maps_form = with_rule (new_app (codes "maps")) file_rule
 abbrev pub exec_form : App
 exec_form = with_rule (with_rule (new_app (codes "exec")) turns_rule) file_rule
 
+abbrev pub merge_form : App
+merge_form = with_rule (with_rule (new_app (codes "merge")) out_rule) files_rule
+
+abbrev pub report_form : App
+report_form = with_rule (with_rule (new_app (codes "report")) reporter_rule) files_rule
+
+abbrev pub with_thresholds : App → App
+with_thresholds form =
+    with_rule (with_rule (with_rule (with_rule form
+    (threshold_rule (codes "lines"))) (threshold_rule (codes "statements"))) (threshold_rule (codes "branches"))) (threshold_rule (codes "functions"))
+
+abbrev pub check_form : App
+check_form = with_rule (with_thresholds (new_app (codes "check"))) files_rule
+
 -- clap's own help is off, and the words don't begin with the program's name; with no version there is no `--version`
 abbrev pub bare : Shape → Shape
 bare form = record form { no_binary_name = true; disable_help_flag = true; disable_help_subcommand = true }
 
+abbrev pub source_forms : App
+source_forms = with_subcommand (with_subcommand (on_top bare (new_app (codes "cov"))) maps_form.top) exec_form.top
+
+abbrev pub with_coverage_forms : App → App
+with_coverage_forms form = with_subcommand (with_subcommand (with_subcommand form merge_form.top) report_form.top) check_form.top
+
 abbrev pub cov_form : App
-cov_form = with_subcommand (with_subcommand (on_top bare (new_app (codes "cov"))) maps_form.top) exec_form.top
+cov_form = with_coverage_forms source_forms
 
 -- ---- what the words ask
 
@@ -62,31 +102,94 @@ cov_form = with_subcommand (with_subcommand (on_top bare (new_app (codes "cov"))
 abbrev pub file_in : List Row → Option (List ℕ)
 file_in rows = option_and_then source_path (first_of (codes "file") rows)
 
--- the number that a text writes, where it is one of 64 bits; what passed `turns_rule` is
+-- the paths that a command's FILE.. names
+abbrev pub files_in : List Row → Option (List (List ℕ))
+files_in rows = all_of (codes "file") rows
+
+-- the number that a text writes, where it is one of 64 bits; what passed a rule is
 abbrev pub number_in : Text → Option ℕ
 number_in text = if is_unsigned_in 0 18446744073709551615 text then Some (digits_value 10 (without_leading_plus text)) else None
 
+-- the number found for an option
+abbrev pub number_found : Text → List Row → Option ℕ
+number_found name rows = option_and_then number_in (one_of name rows)
+
 -- the turns of `exec`: those of its words, or by default
 abbrev pub turns_in : List Row → Option ℕ
-turns_in rows = option_and_then number_in (one_of (codes "turns") rows)
+turns_in rows = number_found (codes "turns") rows
 
-abbrev pub maps_in : List Row → Option Request
-maps_in rows = option_map Maps (file_in rows)
+-- the path of `merge`, which is not empty
+abbrev pub if_path : Text → Option Text
+if_path word = if bytes_eq word [] then None else Some word
 
-abbrev pub exec_in : List Row → Option Request
-exec_in rows = option_and_then (λ turns. option_map (Exec turns) (file_in rows)) (turns_in rows)
+abbrev pub out_in : List Row → Option (List ℕ)
+out_in rows = option_and_then if_path (first_of (codes "out") rows)
+
+-- the report of this name
+abbrev pub reporter_of : Text → Option Reporter
+reporter_of name =
+    if bytes_eq name (codes "text") then Some reporter.Text
+    else (if bytes_eq name (codes "json") then Some reporter.Json
+    else (if bytes_eq name (codes "json-summary") then Some reporter.JsonSummary
+    else (if bytes_eq name (codes "lcov") then Some reporter.Lcov
+    else None)))
+
+abbrev pub reporter_in : List Row → Option Reporter
+reporter_in rows = option_and_then reporter_of (first_of (codes "reporter") rows)
+
+-- the threshold of a metric, where the words have one; what passed its rule is at most 100
+abbrev pub if_percent : ℕ → Option ℕ
+if_percent n = if nat_le n 100 then Some n else None
+
+abbrev pub threshold_in : Text → List Row → Option ℕ
+threshold_in metric rows = option_and_then if_percent (number_found metric rows)
+
+abbrev pub thresholds_in : List Row → Thresholds
+thresholds_in rows = record {
+  lines = threshold_in (codes "lines") rows;
+  statements = threshold_in (codes "statements") rows;
+  branches = threshold_in (codes "branches") rows;
+  functions = threshold_in (codes "functions") rows;
+}
+
+-- what each command is to do
+abbrev pub exec_in : List Row → Option SourceTask
+exec_in rows = option_map Exec (turns_in rows)
+
+abbrev pub merge_in : List Row → Option CoverageTask
+merge_in rows = option_map Merge (out_in rows)
+
+abbrev pub report_in : List Row → Option CoverageTask
+report_in rows = option_map Report (reporter_in rows)
+
+abbrev pub check_in : List Row → CoverageTask
+check_in rows = Check (thresholds_in rows)
+
+abbrev pub on_source : Option SourceTask → List Row → Option Command
+on_source task rows = option_and_then (λ what. option_map (OnSource what) (file_in rows)) task
+
+abbrev pub on_coverage : Option CoverageTask → List Row → Option Command
+on_coverage task rows = option_and_then (λ what. option_map (OnCoverage what) (files_in rows)) task
+
+-- what is to be done with coverage files, by the command's name
+abbrev pub coverage_task : Text → List Row → Option CoverageTask
+coverage_task name rows =
+    if bytes_eq name (codes "merge") then merge_in rows
+    else (if bytes_eq name (codes "report") then report_in rows
+    else (if bytes_eq name (codes "check") then Some (check_in rows)
+    else None))
 
 -- a command's name and what was found for its arguments
-abbrev pub request_in : Text × List Row → Option Request
+abbrev pub request_in : Text × List Row → Option Command
 request_in (name, rows) =
-    if bytes_eq name (codes "maps") then maps_in rows
-    else (if bytes_eq name (codes "exec") then exec_in rows
-    else None)
+    if bytes_eq name (codes "maps") then on_source (Some Maps) rows
+    else (if bytes_eq name (codes "exec") then on_source (exec_in rows) rows
+    else on_coverage (coverage_task name rows) rows)
 
 -- the command that the words name, where nothing is wrong with them
 abbrev pub found_in : List Text → Option (Text × List Row)
 found_in words = if is_empty (fault_of cov_form words) then subcommand_of cov_form words else None
 
 -- what the words ask; all else has no reading
-abbrev pub command_of : List Text → Option Request
+abbrev pub command_of : List Text → Option Command
 command_of words = option_and_then request_in (found_in words)

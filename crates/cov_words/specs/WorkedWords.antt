@@ -1,20 +1,26 @@
 -- Worked examples: what words ask.
 use Rattle.std.specs.Prelude.{◌≡◌, ℕ, List, [], ◌∷◌, map, Option, Some, None, codes}
-use Rattle.cov_words.specs.Words as words
-use Rattle.cov_words.specs.Words.{Request, command_of}
+use Rattle.cov_summary.specs.declared.shortfall.Thresholds.{Thresholds}
+use Rattle.cov_words.specs.declared.command.Command.{Command}
+use Rattle.cov_words.specs.declared.command.Command.TheVariants.{OnSource, OnCoverage}
+use Rattle.cov_words.specs.declared.command.SourceTask.TheVariants as task
+use Rattle.cov_words.specs.declared.command.CoverageTask.TheVariants.{Merge, Report, Check}
+use Rattle.cov_words.specs.declared.command.Reporter.{Reporter}
+use Rattle.cov_words.specs.declared.command.Reporter.TheVariants as reporter
+use Rattle.cov_words.specs.Words.{command_of}
 
 -- the words stand left in each row, and right is what they ask
-abbrev pub Asks : List (List (List ℕ) × Option Request) → Type 0
+abbrev pub Asks : List (List (List ℕ) × Option Command) → Type 0
 Asks rows = map (λ row. command_of row.0) rows ≡ map (λ row. row.1) rows
 
-abbrev pub maps : List ℕ → Option Request
-maps file = Some (words.Maps file)
+abbrev pub maps : List ℕ → Option Command
+maps file = Some (OnSource task.Maps file)
 
-abbrev pub exec : ℕ → List ℕ → Option Request
-exec turns file = Some (words.Exec turns file)
+abbrev pub exec : ℕ → List ℕ → Option Command
+exec turns file = Some (OnSource (task.Exec turns) file)
 
 -- `maps`, which needs one FILE; after `--` each word is one
-abbrev pub maps_rows : List (List (List ℕ) × Option Request)
+abbrev pub maps_rows : List (List (List ℕ) × Option Command)
 maps_rows =
     (codes "maps" ∷ codes "a.js" ∷ [], maps (codes "a.js")) ∷
     (codes "maps" ∷ codes "./x/../a.js" ∷ [], maps (codes "a.js")) ∷
@@ -27,7 +33,7 @@ abbrev pub Maps : Type 0
 Maps = Asks maps_rows
 
 -- `exec`, whose turns stand before or after FILE, in a word of their own or after `=`
-abbrev pub exec_rows : List (List (List ℕ) × Option Request)
+abbrev pub exec_rows : List (List (List ℕ) × Option Command)
 exec_rows =
     (codes "exec" ∷ codes "a.js" ∷ [], exec 1000000 (codes "a.js")) ∷
     (codes "exec" ∷ codes "--turns" ∷ codes "0" ∷ codes "a.js" ∷ [], exec 0 (codes "a.js")) ∷
@@ -40,6 +46,55 @@ exec_rows =
 
 abbrev pub Exec : Type 0
 Exec = Asks exec_rows
+
+-- `merge`, which needs P and one FILE or more, in any order
+abbrev pub merge : List ℕ → List (List ℕ) → Option Command
+merge out files = Some (OnCoverage (Merge out) files)
+
+abbrev pub merge_rows : List (List (List ℕ) × Option Command)
+merge_rows =
+    (codes "merge" ∷ codes "--out" ∷ codes "p" ∷ codes "a.json" ∷ [], merge (codes "p") (codes "a.json" ∷ [])) ∷
+    (codes "merge" ∷ codes "a.json" ∷ codes "b.json" ∷ codes "--out=p" ∷ [], merge (codes "p") (codes "a.json" ∷ codes "b.json" ∷ [])) ∷ (
+      codes "merge" ∷ codes "a.json" ∷ codes "--out" ∷ codes "p" ∷ codes "b" ∷ codes "a.json" ∷ [],
+      merge (codes "p") (codes "a.json" ∷ codes "b" ∷ codes "a.json" ∷ []),
+    ) ∷
+    (codes "merge" ∷ codes "--out" ∷ codes "p" ∷ codes "--" ∷ codes "-a" ∷ codes "--out" ∷ [], merge (codes "p") (codes "-a" ∷ codes "--out" ∷ [])) ∷
+    []
+
+abbrev pub Merges : Type 0
+Merges = Asks merge_rows
+
+-- `report`, whose reporter is `text` by default
+abbrev pub report : Reporter → List (List ℕ) → Option Command
+report reporter files = Some (OnCoverage (Report reporter) files)
+
+abbrev pub report_rows : List (List (List ℕ) × Option Command)
+report_rows =
+    (codes "report" ∷ codes "a.json" ∷ [], report reporter.Text (codes "a.json" ∷ [])) ∷
+    (codes "report" ∷ codes "--reporter" ∷ codes "text" ∷ codes "a.json" ∷ [], report reporter.Text (codes "a.json" ∷ [])) ∷
+    (codes "report" ∷ codes "--reporter=json" ∷ codes "a.json" ∷ [], report reporter.Json (codes "a.json" ∷ [])) ∷
+    (codes "report" ∷ codes "a.json" ∷ codes "b.json" ∷ codes "--reporter" ∷ codes "json-summary" ∷ [], report reporter.JsonSummary (codes "a.json" ∷ codes "b.json" ∷ [])) ∷
+    (codes "report" ∷ codes "a.json" ∷ codes "--reporter=lcov" ∷ codes "./x/../b" ∷ [], report reporter.Lcov (codes "a.json" ∷ codes "./x/../b" ∷ [])) ∷
+    []
+
+abbrev pub Reports : Type 0
+Reports = Asks report_rows
+
+-- `check`, with the thresholds that the words have
+abbrev pub check : Option ℕ → Option ℕ → Option ℕ → Option ℕ → List (List ℕ) → Option Command
+check lines statements branches functions files =
+    Some (OnCoverage (Check (record { lines = lines; statements = statements; branches = branches; functions = functions })) files)
+
+abbrev pub check_rows : List (List (List ℕ) × Option Command)
+check_rows =
+    (codes "check" ∷ codes "a.json" ∷ [], check None None None None (codes "a.json" ∷ [])) ∷
+    (codes "check" ∷ codes "--lines" ∷ codes "90" ∷ codes "a.json" ∷ [], check (Some 90) None None None (codes "a.json" ∷ [])) ∷
+    (codes "check" ∷ codes "--statements=0" ∷ codes "a" ∷ codes "--branches" ∷ codes "100" ∷ codes "b" ∷ [], check None (Some 0) (Some 100) None (codes "a" ∷ codes "b" ∷ [])) ∷
+    (codes "check" ∷ codes "--functions" ∷ codes "+07" ∷ codes "--lines=1" ∷ codes "a" ∷ [], check (Some 1) None None (Some 7) (codes "a" ∷ [])) ∷
+    []
+
+abbrev pub Checks : Type 0
+Checks = Asks check_rows
 
 -- words with no reading
 abbrev pub unread : List (List (List ℕ))
@@ -77,6 +132,23 @@ unread =
     (codes "exec" ∷ codes "a.js" ∷ codes "--turns" ∷ []) ∷
     (codes "exec" ∷ codes "--turn" ∷ codes "1" ∷ codes "a.js" ∷ []) ∷
     (codes "exec" ∷ codes "--turns" ∷ codes "1" ∷ codes "--turns" ∷ codes "2" ∷ codes "a.js" ∷ []) ∷
+    (codes "merge" ∷ codes "a.json" ∷ []) ∷
+    (codes "merge" ∷ codes "--out" ∷ codes "p" ∷ []) ∷
+    (codes "merge" ∷ codes "--out=" ∷ codes "a.json" ∷ []) ∷
+    (codes "merge" ∷ codes "--out" ∷ [] ∷ codes "a.json" ∷ []) ∷
+    (codes "merge" ∷ codes "--out" ∷ codes "p" ∷ codes "--out" ∷ codes "q" ∷ codes "a.json" ∷ []) ∷
+    (codes "report" ∷ []) ∷
+    (codes "report" ∷ codes "--reporter" ∷ codes "html" ∷ codes "a.json" ∷ []) ∷
+    (codes "report" ∷ codes "--reporter=" ∷ codes "a.json" ∷ []) ∷
+    (codes "report" ∷ codes "--reporter" ∷ codes "LCOV" ∷ codes "a.json" ∷ []) ∷
+    (codes "report" ∷ codes "a.json" ∷ codes "--reporter" ∷ []) ∷
+    (codes "report" ∷ codes "--lines" ∷ codes "1" ∷ codes "a.json" ∷ []) ∷
+    (codes "check" ∷ []) ∷
+    (codes "check" ∷ codes "--lines" ∷ codes "101" ∷ codes "a.json" ∷ []) ∷
+    (codes "check" ∷ codes "--lines" ∷ codes "-1" ∷ codes "a.json" ∷ []) ∷
+    (codes "check" ∷ codes "--lines" ∷ codes "9.5" ∷ codes "a.json" ∷ []) ∷
+    (codes "check" ∷ codes "--lines" ∷ codes "1" ∷ codes "--lines" ∷ codes "1" ∷ codes "a.json" ∷ []) ∷
+    (codes "check" ∷ codes "--lines" ∷ codes "256" ∷ codes "a.json" ∷ []) ∷
     []
 
 abbrev pub NoReading : Type 0

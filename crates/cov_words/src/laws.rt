@@ -1,4 +1,4 @@
-ghost use Rattle.cov_words.specs.Laws.{MapsFile, ExecFile, ExecTurns, NoTurns, OneFile, OtherName};
+ghost use Rattle.cov_words.specs.Laws.{MapsFile, ExecFile, ExecTurns, NoTurns, OneFile, MergeFile, ReportFile, CheckFiles, OtherName};
 
 /// What the plain forms ask, for any words.
 pub fn plain_words()
@@ -7,5 +7,8 @@ pub fn plain_words()
     ensures exec_turns { ExecTurns }
     ensures no_turns { NoTurns }
     ensures one_file { OneFile }
+    ensures merge_file { MergeFile }
+    ensures report_file { ReportFile }
+    ensures check_files { CheckFiles }
     ensures other_name { OtherName }
 {}

@@ -1,8 +1,11 @@
-ghost use Rattle.cov_words.specs.WorkedWords.{Maps, Exec, NoReading};
+ghost use Rattle.cov_words.specs.WorkedWords.{Maps, Exec, Merges, Reports, Checks, NoReading};
 
 /// What words ask for by the definition, worked out: it computes.
 pub fn worked_words()
     ensures maps { Maps }
     ensures exec { Exec }
+    ensures merges { Merges }
+    ensures reports { Reports }
+    ensures checks { Checks }
     ensures no_reading { NoReading }
 {}

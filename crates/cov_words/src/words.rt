@@ -1,27 +1,20 @@
-ghost use Rattle.std.specs.Prelude.{◌≡◌, false, map, string_bytes, option_map, option_and_then, IfOk};
+ghost use Rattle.std.specs.Prelude.{◌≡◌, false, map, string_bytes, option_map, option_and_then, Some, IfOk};
 ghost use Rattle.clap.specs.Words.{app_of, found_of, rows_of, rule_of, subcommand_rows_of};
 ghost use Rattle.clap.specs.declared.builder.command.Command.TheViews.{out-Command as fields_of};
 ghost use Rattle.cov_words.specs.Words as spec;
 
-use crate::path::source_path;
+use crate::arguments::{file_in, files_in, out_in, reporter_in, thresholds_in, turns_in};
+use crate::forms::{check, exec, maps, merge, report};
+use crate::{Command, CoverageTask, SourceTask};
+use clap::ArgMatches;
 use clap::error::ErrorKind;
-use clap::{Arg, ArgMatches};
-use items::{Memory, Text};
+use items::Memory;
 use std::alloc::{AllocError, Global};
-
-/// What the words of the command line ask for.
-#[derive(Debug, Drop)]
-pub enum Command {
-    /// To write the map of the file at this source path.
-    Maps { file: Text },
-    /// To run the file at this source path, for so many turns at most.
-    Exec { turns: u64, file: Text },
-}
 
 /// The command that the words after the program's name give, `None` where they have no reading.
 /// Want of memory is the only error.
 pub fn command_of(alloc: Global, words: &[String]) -> Result<Option<Command>, Memory>
-    ensures { IfOk result (λ found. option_map spec.request_of found ≡ spec.command_of (map string_bytes words.now)) }
+    ensures { IfOk result (λ found. found ≡ spec.command_of (map string_bytes words.now)) }
 {
     match matches_of(alloc, words)? {
         Some(matches) => request_in(alloc, &matches),
@@ -46,6 +39,13 @@ fn matches_of<'a>(alloc: Global, words: &'a [String]) -> Result<Option<ArgMatche
 fn cov<'a>(alloc: Global) -> Result<clap::Command<'a>, Memory>
     ensures { IfOk result (λ form. app_of form ≡ spec.cov_form) }
 {
+    with_coverage_forms(alloc, source_forms(alloc)?)
+}
+
+/// The forms of the commands on a source.
+fn source_forms<'a>(alloc: Global) -> Result<clap::Command<'a>, Memory>
+    ensures { IfOk result (λ form. app_of form ≡ spec.source_forms) }
+{
     let bare = clap::Command::new(alloc, "cov")
         .no_binary_name(true)
         .disable_help_flag(true)
@@ -53,89 +53,117 @@ fn cov<'a>(alloc: Global) -> Result<clap::Command<'a>, Memory>
     bare.subcommand(maps(alloc)?)?.subcommand(exec(alloc)?)
 }
 
-/// The form of `maps`.
-fn maps<'a>(alloc: Global) -> Result<clap::Command<'a>, Memory>
-    ensures { IfOk result (λ form. (app_of form ≡ spec.maps_form) × ((fields_of form).has_globals ≡ false)) }
+/// These forms, and those of the commands on coverage files.
+fn with_coverage_forms<'a>(
+    alloc: Global,
+    form: clap::Command<'a>,
+) -> Result<clap::Command<'a>, Memory>
+    ensures { IfOk result (λ all. app_of all ≡ spec.with_coverage_forms (app_of form.entry)) }
 {
-    clap::Command::new(alloc, "maps").arg(file(alloc))
-}
-
-/// The form of `exec`.
-fn exec<'a>(alloc: Global) -> Result<clap::Command<'a>, Memory>
-    ensures { IfOk result (λ form. (app_of form ≡ spec.exec_form) × ((fields_of form).has_globals ≡ false)) }
-{
-    clap::Command::new(alloc, "exec")
-        .arg(turns(alloc))?
-        .arg(file(alloc))
-}
-
-/// The argument FILE.
-fn file<'a>(alloc: Global) -> Arg<'a>
-    ensures { (rule_of result ≡ spec.file_rule) × (result.global ≡ false) }
-{
-    Arg::new(alloc, "file").required(true)
-}
-
-/// The option `--turns N`: a number up to 2^53 - 1, and a million by default.
-fn turns<'a>(alloc: Global) -> Arg<'a>
-    ensures { (rule_of result ≡ spec.turns_rule) × (result.global ≡ false) }
-{
-    Arg::new(alloc, "turns")
-        .long("turns")
-        .value_parser(clap::value_parser!(u64).range(..=9_007_199_254_740_991))
-        .default_value("1000000")
+    form.subcommand(merge(alloc)?)?
+        .subcommand(report(alloc)?)?
+        .subcommand(check(alloc)?)
 }
 
 /// What is asked by the command that was found.
 fn request_in(alloc: Global, matches: &ArgMatches<'_>) -> Result<Option<Command>, Memory>
-    ensures { IfOk result (λ found. option_map spec.request_of found ≡ option_and_then spec.request_in (subcommand_rows_of matches.now)) }
+    ensures { IfOk result (λ found. found ≡ option_and_then spec.request_in (subcommand_rows_of matches.now)) }
 {
     let Some((name, own)) = matches.subcommand() else {
         return Ok(None);
     };
     match name {
-        "maps" => maps_in(alloc, own),
-        "exec" => exec_in(alloc, own),
+        "maps" => on_source(alloc, Some(SourceTask::Maps), own),
+        "exec" => on_source(alloc, exec_in(own), own),
+        _ => on_coverage(alloc, coverage_task(alloc, name, own)?, own),
+    }
+}
+
+/// A command on the source file that was found.
+fn on_source(
+    alloc: Global,
+    task: Option<SourceTask>,
+    own: &ArgMatches<'_>,
+) -> Result<Option<Command>, Memory>
+    ensures { IfOk result (λ found. found ≡ spec.on_source task (rows_of (found_of own.now))) }
+{
+    let Some(task) = task else {
+        return Ok(None);
+    };
+    match file_in(alloc, own)? {
+        Some(file) => Ok(Some(Command::OnSource { task, file })),
+        None => Ok(None),
+    }
+}
+
+/// A command on the coverage files that were found.
+fn on_coverage(
+    alloc: Global,
+    task: Option<CoverageTask>,
+    own: &ArgMatches<'_>,
+) -> Result<Option<Command>, Memory>
+    ensures { IfOk result (λ found. found ≡ spec.on_coverage task (rows_of (found_of own.now))) }
+{
+    let Some(task) = task else {
+        return Ok(None);
+    };
+    match files_in(alloc, own)? {
+        Some(files) => Ok(Some(Command::OnCoverage { task, files })),
+        None => Ok(None),
+    }
+}
+
+/// What `exec` is to do.
+fn exec_in(own: &ArgMatches<'_>) -> Option<SourceTask>
+    ensures { result ≡ spec.exec_in (rows_of (found_of own.now)) }
+{
+    match turns_in(own) {
+        Some(turns) => Some(SourceTask::Exec { turns }),
+        None => None,
+    }
+}
+
+/// What is to be done with coverage files, by the command's name.
+fn coverage_task(
+    alloc: Global,
+    name: &str,
+    own: &ArgMatches<'_>,
+) -> Result<Option<CoverageTask>, Memory>
+    ensures { IfOk result (λ task. task ≡ spec.coverage_task name.now (rows_of (found_of own.now))) }
+{
+    match name {
+        "merge" => merge_in(alloc, own),
+        "report" => Ok(report_in(own)),
+        "check" => Ok(Some(check_in(own))),
         _ => Ok(None),
     }
 }
 
-/// What `maps` asks, from what was found for its arguments.
-fn maps_in(alloc: Global, own: &ArgMatches<'_>) -> Result<Option<Command>, Memory>
-    ensures { IfOk result (λ found. option_map spec.request_of found ≡ spec.maps_in (rows_of (found_of own.now))) }
+/// What `merge` is to do.
+fn merge_in(alloc: Global, own: &ArgMatches<'_>) -> Result<Option<CoverageTask>, Memory>
+    ensures { IfOk result (λ task. task ≡ spec.merge_in (rows_of (found_of own.now))) }
 {
-    match file_in(alloc, own)? {
-        Some(file) => Ok(Some(Command::Maps { file })),
+    match out_in(alloc, own)? {
+        Some(out) => Ok(Some(CoverageTask::Merge { out })),
         None => Ok(None),
     }
 }
 
-/// What `exec` asks, from what was found for its arguments.
-fn exec_in(alloc: Global, own: &ArgMatches<'_>) -> Result<Option<Command>, Memory>
-    ensures { IfOk result (λ found. option_map spec.request_of found ≡ spec.exec_in (rows_of (found_of own.now))) }
+/// What `report` is to do.
+fn report_in(own: &ArgMatches<'_>) -> Option<CoverageTask>
+    ensures { result ≡ spec.report_in (rows_of (found_of own.now)) }
 {
-    let Some(turns) = turns_in(own) else {
-        return Ok(None);
-    };
-    match file_in(alloc, own)? {
-        Some(file) => Ok(Some(Command::Exec { turns, file })),
-        None => Ok(None),
+    match reporter_in(own) {
+        Some(reporter) => Some(CoverageTask::Report { reporter }),
+        None => None,
     }
 }
 
-/// The turns that were found.
-fn turns_in(own: &ArgMatches<'_>) -> Option<u64>
-    ensures { result ≡ spec.turns_in (rows_of (found_of own.now)) }
+/// What `check` is to do.
+fn check_in(own: &ArgMatches<'_>) -> CoverageTask
+    ensures { result ≡ spec.check_in (rows_of (found_of own.now)) }
 {
-    own.get_one::<u64>("turns")
-}
-
-/// The source path that the word found for FILE names.
-fn file_in(alloc: Global, own: &ArgMatches<'_>) -> Result<Option<Text>, Memory>
-    ensures { IfOk result (λ found. found ≡ spec.file_in (rows_of (found_of own.now))) }
-{
-    match own.get_str("file") {
-        Some(word) => source_path(alloc, word),
-        None => Ok(None),
+    CoverageTask::Check {
+        thresholds: thresholds_in(own),
     }
 }

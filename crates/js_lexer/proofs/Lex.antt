@@ -1,20 +1,26 @@
 -- What follows from the definition of the next token: there is one at most, it is a part of the text, and it goes on.
-use Rattle.std.proofs.Common.{◌≡◌, ℕ, suc, ◌+◌, ◌-◌, ◌<◌, ◌≤◌, Bool, true, false, cond, List, [], ◌∷◌, ◌++◌, length, take, drop, Option, Some, None, encode_utf8_all, refl, sym, ap, ◌∙◌, subst, arith, ◌⊎◌, inl, inr}
+use Rattle.std.proofs.Common.{◌≡◌, ℕ, zero, suc, ◌+◌, ◌-◌, ◌<◌, ◌≤◌, ◌==◌, ◌||◌, Bool, true, false, cond, List, [], ◌∷◌, ◌++◌, length, take, drop, Option, Some, None, encode_utf8_all, refl, sym, ap, ◌∙◌, subst, arith, ◌⊎◌, inl, inr}
+use Rattle.std.specs.List.{list_any}
 use Rattle.std.specs.Option.{option_map}
 use Rattle.std.proofs.Math.Seq.{take-append_seam, drop-append_seam}
 use Rattle.std.proofs.lemmas.Bool.{and_parts, eqb-true}
 use Rattle.std.proofs.lemmas.List.{length-drop}
 use Rattle.std.proofs.lemmas.Str.{encodes-append}
 use Rattle.js_text.specs.Place.{Place}
-use Rattle.js_text.specs.Character.{starts_identifier, is_digit}
+use Rattle.js_text.specs.Character.{starts_identifier}
+use Rattle.js_text.specs.Gap.{with_found}
+use Rattle.js_text.specs.Identifier.{is_backslash, after_first, word_of_bytes}
+use Rattle.js_text.specs.Number.{number_rest}
+use Rattle.js_text.specs.Units.{string_rest, template_rest}
+use Rattle.js_text.specs.RegularExpression.{body_rest}
 use Rattle.js_text.specs.declared.punctuator.Punctuator.{Punctuator}
 use Rattle.js_text.specs.declared.punctuator.Punctuator.TheVariants.{UnsignedShiftRightAssign}
-use Rattle.js_text.specs.Punctuator.{spelling_of, begins_with, begins_with_punctuator, punctuators, first_punctuator, longest_punctuator, is_taken}
+use Rattle.js_text.specs.Punctuator.{spelling_of, begins_with, begins_with_punctuator, punctuators, first_punctuator, longest_punctuator, is_for}
 use Rattle.js_text.specs.Token as T
 use Rattle.js_text.specs.declared.goal.Goal.{Goal}
 use Rattle.js_text.specs.declared.goal.Goal.TheVariants.{Div, RegExp, Template}
-use Rattle.js_text.specs.Token.{Kind, Word, Numeral, StringLiteral, End, Token, spelling}
-use Rattle.js_text.specs.Lex.{common_token, token_of, token_of_run, numeral_of, string_of, string_rest, punctuator_of, ends_numeral, is_quote, word_run, numeral_run, moved, gap_run, token_place, token_after, next_token, offset_of, characters_of, Lex}
+use Rattle.js_text.specs.Token.{Kind, Word, EscapedWord, StringLiteral, RegularExpression, End, Token, spelling}
+use Rattle.js_text.specs.Lex.{common_token, continued_token, token_of, token_to, token_by, number_kind, template_kind, continued_kind, begins_number, is_quote, punctuator_of, flags_rest, begins_comment, slash_token, moved, gap_run, token_place, token_after, next_token, offset_of, characters_of, Lex}
 use Rattle.js_text.proofs.Place.{place_at-here, length-encodes-append}
 use Rattle.js_lexer.proofs.Places.{characters_of-moved, encodes-take-drop}
 
@@ -53,14 +59,14 @@ pub record Found (goal : Goal) (p q : Place) (t : Token) : Type 0 where
   pub kind : Kind
   pub count : ℕ
   pub is : token_of goal (token_place goal p).after ≡ Some (kind, count)
-  pub token : t ≡ token_after kind (gap_run goal p) p (moved count (token_place goal p))
+  pub token : t ≡ token_after goal kind p (moved count (token_place goal p))
   pub place : q ≡ moved count (token_place goal p)
 
 pub found : (goal : Goal) (p q : Place) (t : Token) → next_token goal p ≡ Some (t, q) → Found goal p q t
 found goal p q t h = by_token (token_of goal (token_place goal p).after) refl h
   where
     by_token : (o : Option (Kind × ℕ)) → token_of goal (token_place goal p).after ≡ o →
-        option_map {U = Token × Place} (λ (f : Kind × ℕ). (token_after f.0 (gap_run goal p) p (moved f.1 (token_place goal p)), moved f.1 (token_place goal p))) o ≡ Some (t, q) →
+        option_map {U = Token × Place} (λ (f : Kind × ℕ). (token_after goal f.0 p (moved f.1 (token_place goal p)), moved f.1 (token_place goal p))) o ≡ Some (t, q) →
         Found goal p q t
     by_token None e h = absurd cc
     by_token (Some (kind, count)) e h = record {
@@ -151,40 +157,90 @@ longest_punctuator-begins : (cs : List ℕ) → StartsWith cs (longest_punctuato
 unfolding longest_punctuator
 longest_punctuator-begins cs = first_punctuator-begins punctuators cs
 
-abbrev IsSpelled : List ℕ → Option (Kind × ℕ) → Type 0
-IsSpelled cs None = Unit {0}
-IsSpelled cs (Some (kind, count)) = spelling kind ≡ encode_utf8_all (take count cs)
+-- a token is spelled by the characters that it takes, and is the end, where nothing follows, or takes one at least
+abbrev Fits : List ℕ → Option (Kind × ℕ) → Type 0
+Fits cs None = Unit {0}
+Fits cs (Some (kind, count)) = (spelling kind ≡ encode_utf8_all (take count cs)) × (((kind ≡ End) × (cs ≡ [])) ⊎ ((0 < count) × (0 < length cs)))
 
-spelled-numeral : (cs : List ℕ) → IsSpelled cs (numeral_of cs)
-spelled-numeral cs = elim (ends_numeral (drop (length (numeral_run cs)) cs)) as (λ b. IsSpelled cs (cond b (token_of_run Numeral cs (length (numeral_run cs))) None)) [ true ↦ refl | false ↦ tt ]
+-- a kind that has these bytes is spelled by them
+abbrev Lends : (List ℕ → Kind) → Type 0
+Lends kind = (bytes : List ℕ) → spelling (kind bytes) ≡ bytes
 
-spelled-string : (cs : List ℕ) (rest : Option ℕ) → IsSpelled cs (string_of cs rest)
-spelled-string cs None = tt
-spelled-string cs (Some n) = refl
+fits-to : (kind : List ℕ → Kind) → Lends kind → (c : ℕ) (cs : List ℕ) (rest : Option (List ℕ)) → Fits (c ∷ cs) (token_to kind c cs rest)
+fits-to kind lends c cs None = tt
+fits-to kind lends c cs (Some rest) = (lends (encode_utf8_all (take (1 + (length cs - length rest)) (c ∷ cs))), inr (omega arith, omega arith))
 
-spelled-punctuator : (cs : List ℕ) (o : Option Punctuator) → StartsWith cs o → IsSpelled cs (punctuator_of o)
-spelled-punctuator cs None h = tt
-spelled-punctuator cs (Some p) h = elim (is_taken p) as (λ b. IsSpelled cs (cond b (Some (T.Punctuator p, length (spelling_of p))) None)) [
-  | true ↦ sym (ap encode_utf8_all (take-begins_with (spelling_of p) cs h) ∙ encodes-spelling_of p)
+fits-by : (kind : Bool → List ℕ → Kind) → ((b : Bool) → Lends (kind b)) → (c : ℕ) (cs : List ℕ) (found : Option (Bool × List ℕ)) → Fits (c ∷ cs) (token_by kind c cs found)
+fits-by kind lends c cs None = tt
+fits-by kind lends c cs (Some found) = (lends found.0 (encode_utf8_all (take (1 + (length cs - length found.1)) (c ∷ cs))), inr (omega arith, omega arith))
+
+lends-word : Lends word_of_bytes
+lends-word bytes = elim (list_any is_backslash bytes) as (λ b. spelling (cond b (EscapedWord bytes) (Word bytes)) ≡ bytes) [ true ↦ refl | false ↦ refl ]
+
+lends-number : (b : Bool) → Lends (number_kind b)
+lends-number true bytes = refl
+lends-number false bytes = refl
+
+lends-template : (b : Bool) → Lends (template_kind b)
+lends-template true bytes = refl
+lends-template false bytes = refl
+
+lends-continued : (b : Bool) → Lends (continued_kind b)
+lends-continued true bytes = refl
+lends-continued false bytes = refl
+
+spelling_of-some : (p : Punctuator) → 0 < length (spelling_of p)
+spelling_of-some UnsignedShiftRightAssign = omega arith
+spelling_of-some _ = omega arith
+
+fits-punctuator : (goal : Goal) (c : ℕ) (cs : List ℕ) (o : Option Punctuator) → StartsWith (c ∷ cs) o → Fits (c ∷ cs) (punctuator_of goal o)
+fits-punctuator goal c cs None h = tt
+fits-punctuator goal c cs (Some p) h = elim (is_for goal p) as (λ b. Fits (c ∷ cs) (cond b (Some (T.Punctuator p, length (spelling_of p))) None)) [
+  | true ↦ (sym (ap encode_utf8_all (take-begins_with (spelling_of p) (c ∷ cs) h) ∙ encodes-spelling_of p), inr (spelling_of-some p, omega arith))
   | false ↦ tt
 ]
 
-common_token-spelled : (cs : List ℕ) → IsSpelled cs (common_token cs)
-unfolding common_token
-common_token-spelled [] = refl
-common_token-spelled (c ∷ cs) = by_tests (starts_identifier c) (is_digit c) (is_quote c)
-  where
-    by_tests : (a b d : Bool) → IsSpelled (c ∷ cs) (cond a (token_of_run Word (c ∷ cs) (length (word_run (c ∷ cs))))
-        (cond b (numeral_of (c ∷ cs)) (cond d (string_of (c ∷ cs) (string_rest c cs)) (punctuator_of (longest_punctuator (c ∷ cs))))))
-    by_tests true b d = refl
-    by_tests false true d = spelled-numeral (c ∷ cs)
-    by_tests false false true = spelled-string (c ∷ cs) (string_rest c cs)
-    by_tests false false false = spelled-punctuator (c ∷ cs) _ (longest_punctuator-begins (c ∷ cs))
+fits-longest : (goal : Goal) (c : ℕ) (cs : List ℕ) → Fits (c ∷ cs) (punctuator_of goal (longest_punctuator (c ∷ cs)))
+fits-longest goal c cs = fits-punctuator goal c cs (longest_punctuator (c ∷ cs)) (longest_punctuator-begins (c ∷ cs))
 
-token_of-spelled : (goal : Goal) (cs : List ℕ) → IsSpelled cs (token_of goal cs)
-token_of-spelled Div cs = common_token-spelled cs
-token_of-spelled RegExp cs = common_token-spelled cs
-token_of-spelled Template cs = tt
+fits-slash : (goal : Goal) (cs : List ℕ) → Fits (0x2F ∷ cs) (slash_token goal cs)
+fits-slash Div cs = fits-longest Div 0x2F cs
+fits-slash RegExp cs = fits-to RegularExpression (λ bytes. refl) 0x2F cs (with_found (body_rest false false cs) flags_rest None)
+fits-slash Template cs = fits-longest Template 0x2F cs
+
+fits-slash_or_comment : (goal : Goal) (cs : List ℕ) (b : Bool) → Fits (0x2F ∷ cs) (cond b None (slash_token goal cs))
+fits-slash_or_comment goal cs true = tt
+fits-slash_or_comment goal cs false = fits-slash goal cs
+
+fits-common : (goal : Goal) (cs : List ℕ) → Fits cs (common_token goal cs)
+unfolding common_token
+fits-common goal [] = (refl, inl (refl, refl))
+fits-common goal (c ∷ cs) = by_tests (starts_identifier c || is_backslash c) (begins_number c cs) (is_quote c) (c == 0x60) (c == 0x2F) refl
+  where
+    by_tests : (a b d e f : Bool) → (c == 0x2F) ≡ f → Fits (c ∷ cs) (cond a (token_to word_of_bytes c cs (after_first c cs))
+        (cond b (token_by number_kind c cs (number_rest c cs))
+        (cond d (token_to StringLiteral c cs (string_rest c zero cs))
+        (cond e (token_by template_kind c cs (template_rest zero cs))
+        (cond f (cond (begins_comment cs) None (slash_token goal cs)) (punctuator_of goal (longest_punctuator (c ∷ cs))))))))
+    by_tests true b d e f h = fits-to word_of_bytes lends-word c cs (after_first c cs)
+    by_tests false true d e f h = fits-by number_kind lends-number c cs (number_rest c cs)
+    by_tests false false true e f h = fits-to StringLiteral (λ bytes. refl) c cs (string_rest c zero cs)
+    by_tests false false false true f h = fits-by template_kind lends-template c cs (template_rest zero cs)
+    by_tests false false false false true h =
+        subst (λ (x : ℕ). Fits (x ∷ cs) (cond (begins_comment cs) None (slash_token goal cs))) (sym (eqb-true c 0x2F h)) (fits-slash_or_comment goal cs (begins_comment cs))
+    by_tests false false false false false h = fits-longest goal c cs
+
+fits-continued : (cs : List ℕ) → Fits cs (continued_token cs)
+fits-continued [] = tt
+fits-continued (c ∷ cs) = elim (c == 0x7D) as (λ b. Fits (c ∷ cs) (cond b (token_by continued_kind c cs (template_rest zero cs)) None)) [
+  | true ↦ fits-by continued_kind lends-continued c cs (template_rest zero cs)
+  | false ↦ tt
+]
+
+fits : (goal : Goal) (cs : List ℕ) → Fits cs (token_of goal cs)
+fits Div cs = fits-common Div cs
+fits RegExp cs = fits-common RegExp cs
+fits Template cs = fits-continued cs
 
 -- a token is spelled by the bytes of the text from its start to its end
 pub next_token-spelled : (goal : Goal) (p q : Place) (t : Token) → next_token goal p ≡ Some (t, q) →
@@ -193,74 +249,22 @@ next_token-spelled goal p q t h =
     let f = found goal p q t h in
     let place = token_place goal p in
     let text : characters_of place ≡ characters_of p = characters_of-moved (length (gap_run goal p)) p in
-    let spelled : spelling f.kind ≡ encode_utf8_all (take f.count place.after) = subst (IsSpelled place.after) f.is (token_of-spelled goal place.after) in
+    let spelled : spelling f.kind ≡ encode_utf8_all (take f.count place.after) = (subst (Fits place.after) f.is (fits goal place.after)).0 in
     ap (λ (u : Token). spelling u.kind) f.token ∙ spelled ∙ sym (moved-slice f.count place)
     ∙ ap (λ cs. take (offset_of (moved f.count place) - offset_of place) (drop (offset_of place) (encode_utf8_all cs))) text
     ∙ sym (ap (λ (u : Token). take (u.span.end - u.span.start) (drop u.span.start (encode_utf8_all (characters_of p)))) f.token)
 
 -- ---- the text goes on
 
-abbrev Advances : List ℕ → Option (Kind × ℕ) → Type 0
-Advances cs None = Unit {0}
-Advances cs (Some (kind, count)) = ((kind ≡ End) × (cs ≡ [])) ⊎ ((0 < count) × (0 < length cs))
-
 empty : (cs : List ℕ) → length cs ≡ 0 → cs ≡ []
 empty [] h = refl
 empty (c ∷ cs) h = absurd (omega arith)
-
-longer : (c : ℕ) (cs : List ℕ) → 0 < length (c ∷ cs)
-longer c cs = omega arith
-
--- a run that has a first character
-advances-run : (kind : List ℕ → Kind) (c : ℕ) (cs : List ℕ) (n : ℕ) → 0 < n → Advances (c ∷ cs) (token_of_run kind (c ∷ cs) n)
-advances-run kind c cs n h = inr (h, longer c cs)
-
-advances-numeral : (c : ℕ) (cs : List ℕ) → Advances (c ∷ cs) (numeral_of (c ∷ cs))
-advances-numeral c cs =
-    let count = length (numeral_run (c ∷ cs)) in
-    let some : 0 < count = omega arith in
-    elim (ends_numeral (drop count (c ∷ cs))) as (λ b. Advances (c ∷ cs) (cond b (token_of_run Numeral (c ∷ cs) count) None)) [
-      | true ↦ advances-run Numeral c cs count some
-      | false ↦ tt
-    ]
-
-advances-string : (c : ℕ) (cs : List ℕ) (rest : Option ℕ) → Advances (c ∷ cs) (string_of (c ∷ cs) rest)
-advances-string c cs None = tt
-advances-string c cs (Some n) = advances-run StringLiteral c cs (n + 1) (omega arith)
-
-spelling_of-some : (p : Punctuator) → 0 < length (spelling_of p)
-spelling_of-some UnsignedShiftRightAssign = omega arith
-spelling_of-some _ = omega arith
-
-advances-punctuator : (c : ℕ) (cs : List ℕ) (o : Option Punctuator) → Advances (c ∷ cs) (punctuator_of o)
-advances-punctuator c cs None = tt
-advances-punctuator c cs (Some p) = elim (is_taken p) as (λ b. Advances (c ∷ cs) (cond b (Some (T.Punctuator p, length (spelling_of p))) None)) [
-  | true ↦ inr (spelling_of-some p, longer c cs)
-  | false ↦ tt
-]
-
-common_token-advances : (cs : List ℕ) → Advances cs (common_token cs)
-unfolding common_token
-common_token-advances [] = inl (refl, refl)
-common_token-advances (c ∷ cs) = by_tests (starts_identifier c) (is_digit c) (is_quote c)
-  where
-    by_tests : (a b d : Bool) → Advances (c ∷ cs) (cond a (token_of_run Word (c ∷ cs) (length (word_run (c ∷ cs))))
-        (cond b (numeral_of (c ∷ cs)) (cond d (string_of (c ∷ cs) (string_rest c cs)) (punctuator_of (longest_punctuator (c ∷ cs))))))
-    by_tests true b d = advances-run Word c cs (length (word_run (c ∷ cs))) (omega arith)
-    by_tests false true d = advances-numeral c cs
-    by_tests false false true = advances-string c cs (string_rest c cs)
-    by_tests false false false = advances-punctuator c cs (longest_punctuator (c ∷ cs))
-
-token_of-advances : (goal : Goal) (cs : List ℕ) → Advances cs (token_of goal cs)
-token_of-advances Div cs = common_token-advances cs
-token_of-advances RegExp cs = common_token-advances cs
-token_of-advances Template cs = tt
 
 -- what is left after a move
 length-moved : (n : ℕ) (p : Place) → length (moved n p).after ≡ length p.after - n
 length-moved n p = length-drop n p.after
 
-goes_on : (t : Token) (p q start : Place) (kind : Kind) (gap count : ℕ) → t.kind ≡ kind → Advances start.after (Some (kind, count)) →
+goes_on : (t : Token) (p q start : Place) (kind : Kind) (gap count : ℕ) → t.kind ≡ kind → ((kind ≡ End) × (start.after ≡ [])) ⊎ ((0 < count) × (0 < length start.after)) →
     length start.after ≡ length p.after - gap → length q.after ≡ length start.after - count → ((t.kind ≡ End) × (q.after ≡ [])) ⊎ (length q.after < length p.after)
 goes_on t p q start kind gap count is (inl end) before after =
     let none : length start.after ≡ 0 = ap length end.1 in
@@ -273,5 +277,5 @@ next_token-advances goal p q t h =
     let f = found goal p q t h in
     let start = token_place goal p in
     let gap = length (gap_run goal p) in
-    goes_on t p q start f.kind gap f.count (ap (λ (u : Token). u.kind) f.token) (subst (Advances start.after) f.is (token_of-advances goal start.after))
+    goes_on t p q start f.kind gap f.count (ap (λ (u : Token). u.kind) f.token) (subst (Fits start.after) f.is (fits goal start.after)).1
     (length-moved gap p) (ap (λ (r : Place). length r.after) f.place ∙ length-moved f.count start)

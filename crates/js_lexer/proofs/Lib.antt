@@ -1,4 +1,15 @@
+pub mod CommentPlaces
+pub mod CommentTexts
+pub mod Escapes
+pub mod Gaps
 pub mod Lex
+pub mod Literals
+pub mod Next
+pub mod Onward
+pub mod Passing
 pub mod Places
+pub mod Starts
+pub mod Steps
 pub mod Table
-pub mod Tokens
+pub mod Values
+pub mod Words

@@ -1,16 +1,14 @@
 -- Moving over characters.
-use Rattle.std.proofs.Common.{◌≡◌, ℕ, zero, suc, ◌||◌, encode_utf8_all, ◌+◌, Bool, true, false, List, [], ◌∷◌, ◌++◌, length, take, drop, slice_get, take_while, Option, Some, None, IfSome, IfNone, refl, sym, ap, ◌∙◌, append_assoc, append-nil, arith}
-use Rattle.std.specs.List.{prefix_len, list_any}
-use Rattle.std.proofs.lemmas.Str.{encodes-append}
+use Rattle.std.proofs.Common.{◌≡◌, ℕ, zero, suc, ◌==◌, encode_utf8_all, List, [], ◌∷◌, ◌++◌, length, take, drop, slice_get, Option, Some, None, IfSome, IfNone, refl, sym, ap, ◌∙◌, append_assoc, append-nil, arith}
+use Rattle.std.proofs.lemmas.Bool.{ne_eqb}
+use Rattle.std.proofs.lemmas.Str.{encodes-append, len_utf8_bounds}
 use Rattle.js_text.specs.Place.{Place}
+use Rattle.js_text.specs.Gap.{is_start}
 use Rattle.js_text.specs.Lex.{moved, characters_of}
+use Rattle.js_text.proofs.Place.{length-encodes-cons}
 
 abbrev pub between : List ℕ → List ℕ → Place
 between before after = record { before = before; after = after }
-
--- the place after the characters that pass a test
-abbrev pub past_while : (ℕ → Bool) → Place → Place
-past_while test place = moved (length (take_while test place.after)) place
 
 -- the character that follows was moved over
 pub record MovesOver (p q : Place) (c : ℕ) : Type 0 where
@@ -72,55 +70,6 @@ front-of whole rest p q n bytes others e =
 
 -- ---- the characters that pass a test
 
-pub take_while-cons : (test : ℕ → Bool) (c : ℕ) (rest : List ℕ) → test c ≡ true → take_while test (c ∷ rest) ≡ c ∷ take_while test rest
-take_while-cons test c rest h =
-    let n = prefix_len test rest in
-    let one_more : 1 + n ≡ suc n = omega arith in
-    rw h (ap (λ k. take k (c ∷ rest)) one_more)
-
-pub take_while-stop : (test : ℕ → Bool) (c : ℕ) (cs : List ℕ) → slice_get cs 0 ≡ Some c → test c ≡ false → take_while test cs ≡ []
-take_while-stop test c [] h f = absurd cc
-take_while-stop test c (d ∷ rest) h f =
-    let same : d ≡ c = cc in
-    let fails : test d ≡ false = ap test same ∙ f in
-    rw fails refl
-
-pub take_while-end : (test : ℕ → Bool) (cs : List ℕ) → slice_get cs 0 ≡ None → take_while test cs ≡ []
-take_while-end test [] h = refl
-take_while-end test (c ∷ cs) h = absurd cc
-
-pub past_while-step : (test : ℕ → Bool) (p q : Place) (c : ℕ) → test c ≡ true → MovesOver p q c → past_while test p ≡ past_while test q
-past_while-step test p q c h e =
-    let count = length (take_while test q.after) in
-    let run : take_while test p.after ≡ c ∷ take_while test q.after = ap (take_while test) e.after ∙ take_while-cons test c q.after h in
-    let more : length (take_while test p.after) ≡ suc count = omega (arith, ap length run) in
-    ap (λ n. moved n p) more ∙ moved-suc p q c count e
-
-pub past_while-none : (test : ℕ → Bool) (p : Place) → take_while test p.after ≡ [] → past_while test p ≡ p
-past_while-none test p e = ap (λ (xs : List ℕ). moved (length xs) p) e ∙ sym (moved-zero p)
-
-pub past_while-stop : (test : ℕ → Bool) (p : Place) (c : ℕ) → slice_get p.after 0 ≡ Some c → test c ≡ false → past_while test p ≡ p
-past_while-stop test p c h f = past_while-none test p (take_while-stop test c p.after h f)
-
-pub past_while-end : (test : ℕ → Bool) (p : Place) → slice_get p.after 0 ≡ None → past_while test p ≡ p
-past_while-end test p h = past_while-none test p (take_while-end test p.after h)
-
--- whether one of them passes another test, one character at a time
-pub any_while-step : (any test : ℕ → Bool) (p q : Place) (c : ℕ) → test c ≡ true → MovesOver p q c →
-    list_any any (take_while test p.after) ≡ list_any any (c ∷ take_while test q.after)
-any_while-step any test p q c h e = ap (list_any any) (ap (take_while test) e.after ∙ take_while-cons test c q.after h)
-
--- a character and a run of others after it
-pub moved-word : (p q r : Place) (c : ℕ) → MovesOver p q c → (n : ℕ) → r ≡ moved (length (take n q.after)) q → r ≡ moved (length (c ∷ take n q.after)) p
-moved-word p q r c e n h =
-    let run = take n q.after in
-    let more : length (c ∷ run) ≡ suc (length run) = omega arith in
-    h ∙ sym (moved-suc p q c (length run) e) ∙ ap (λ k. moved k p) (sym more)
-
-pub or_assoc : (a b c : Bool) → ((a || b) || c) ≡ (a || (b || c))
-or_assoc true b c = refl
-or_assoc false b c = refl
-
 -- one character less to move over, after a move or at the end
 pub moved-bump : (p q : Place) (r : Option ℕ) (n : ℕ) → IfSome r (λ c. p.after ≡ c ∷ q.after) → IfSome r (λ c. q.before ≡ p.before ++ c ∷ []) →
     IfNone r (p.after ≡ []) → IfNone r (q ≡ p) → moved (suc n) p ≡ moved n q
@@ -131,3 +80,8 @@ moved-bump p q (Some c) n after before end same = moved-suc p q c n (record { af
 pub moved-less : (p q : Place) (r : Option ℕ) (m n : ℕ) → m ≡ suc n → IfSome r (λ c. p.after ≡ c ∷ q.after) → IfSome r (λ c. q.before ≡ p.before ++ c ∷ []) →
     IfNone r (p.after ≡ []) → IfNone r (q ≡ p) → moved n q ≡ moved m p
 moved-less p q r m n e after before end same = sym (ap (λ k. moved k p) e ∙ moved-bump p q r n after before end same)
+
+-- no bytes stand before a place exactly where no character does
+pub start-is : (before : List ℕ) → (length (encode_utf8_all before) == 0) ≡ is_start before
+start-is [] = refl
+start-is (c ∷ before) = ne_eqb _ 0 (λ e. let some : ⊥ = omega (arith, e, length-encodes-cons c before, len_utf8_bounds c) in some)

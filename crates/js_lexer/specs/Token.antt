@@ -1,5 +1,5 @@
 -- The code's tokens, as those of the definition.
-use Rattle.std.specs.Prelude.{◌≡◌, ℕ, Bool, true, false, Option, None, Some}
+use Rattle.std.specs.Prelude.{◌≡◌, ℕ, Option, None, Some}
 use Rattle.js_lexer.specs.declared.token.TokenKind.{TokenKind}
 use Rattle.js_lexer.specs.declared.token.TokenKind.TheVariants as token_kind
 use Rattle.js_lexer.specs.declared.token.Token as code
@@ -9,7 +9,14 @@ use Rattle.js_text.specs.Lex.{moved}
 
 abbrev pub kind_of : TokenKind → T.Kind
 kind_of (token_kind.Word text) = T.Word text.now
+kind_of (token_kind.EscapedWord text) = T.EscapedWord text.now
 kind_of (token_kind.Numeral text) = T.Numeral text.now
+kind_of (token_kind.BigInt text) = T.BigInt text.now
+kind_of (token_kind.NoSubstitutionTemplate text) = T.NoSubstitutionTemplate text.now
+kind_of (token_kind.TemplateHead text) = T.TemplateHead text.now
+kind_of (token_kind.TemplateMiddle text) = T.TemplateMiddle text.now
+kind_of (token_kind.TemplateTail text) = T.TemplateTail text.now
+kind_of (token_kind.RegularExpression text) = T.RegularExpression text.now
 kind_of (token_kind.StringLiteral text) = T.StringLiteral text.now
 kind_of (token_kind.Punctuator punctuator) = T.Punctuator punctuator
 kind_of token_kind.End = T.End
@@ -27,8 +34,3 @@ plain_token token = record {
 abbrev pub KindIs : Option TokenKind → Option (T.Kind × ℕ) → Place → Place → Type 0
 KindIs None found before after = found ≡ None
 KindIs (Some kind) found before after = (count : ℕ) × (found ≡ Some (kind_of kind, count)) × (after ≡ moved count before)
-
--- whether a string is closed, and then the place has moved over the rest of it
-abbrev pub StringEnds : Bool → Option ℕ → Place → Place → Type 0
-StringEnds false rest before after = rest ≡ None
-StringEnds true rest before after = (count : ℕ) × (rest ≡ Some count) × (after ≡ moved count before)

@@ -4,13 +4,15 @@ ghost use Rattle.js_text.specs.Character as spec;
 ghost use Rattle.js_text.specs.Lex as lex;
 ghost use Rattle.js_text.specs.Position as position;
 
-/// A class of characters that a token goes on with.
+/// A class of characters.
 #[derive(Clone, Copy)]
 pub(crate) enum Class {
+    /// What an identifier starts with.
+    First,
     /// What an identifier goes on with.
     Identifier,
-    /// Decimal digits.
-    Digit,
+    /// White space and line terminators.
+    Gap,
 }
 
 impl Class {
@@ -19,15 +21,16 @@ impl Class {
         ensures { result ≡ test_of self character }
     {
         match self {
+            Class::First => starts_identifier(character),
             Class::Identifier => continues_identifier(character),
-            Class::Digit => is_digit(character),
+            Class::Gap => is_gap(character),
         }
     }
 }
 
 /// Whether a character may stand between two tokens: white space or a line terminator.
 #[tactic(auto, unfolding(js_text::specs::Character::is_gap))]
-pub(crate) fn is_gap(character: char) -> bool
+fn is_gap(character: char) -> bool
     ensures { result ≡ spec.is_gap character }
 {
     matches!(
@@ -88,12 +91,4 @@ pub(crate) fn is_quote(character: char) -> bool
     ensures { result ≡ lex.is_quote character }
 {
     matches!(character, '\'' | '"')
-}
-
-/// Whether a character may not stand in a string literal.
-#[tactic(auto, unfolding(js_text::specs::Lex::breaks_string))]
-pub(crate) fn breaks_string(character: char) -> bool
-    ensures { result ≡ lex.breaks_string character }
-{
-    matches!(character, '\n' | '\r' | '\\')
 }

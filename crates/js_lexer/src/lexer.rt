@@ -5,7 +5,8 @@ ghost use Rattle.js_text.specs.Lex as spec;
 ghost use Rattle.js_text.specs.Position.{position_of};
 ghost use Rattle.js_text.specs.Token as plain;
 
-use crate::scan::{kind, skip_gap};
+use crate::gap::skip_gap;
+use crate::kind::kind;
 use crate::{Goal, Span, Token};
 use js_text::{Cursor, Text};
 use js_tree::{Loc, Pos};
@@ -85,7 +86,7 @@ fn next_of<'a>(cursor: &mut Cursor<'a>, goal: Goal) -> Result<Token<'a>, LexFaul
     ensures fault_at { IfErr result (λ fault. fault.at ≡ spec.offset_of (spec.token_place goal cursor.old)) }
     ensures fault_place { IfErr result (λ fault. fault.place ≡ position_of (spec.token_place goal cursor.old)) }
 {
-    let line_terminator_before = skip_gap(cursor, goal);
+    let gap = skip_gap(cursor, goal);
     let at = cursor.at();
     let place = cursor.position();
     let Some(kind) = kind(cursor, goal) else {
@@ -99,7 +100,7 @@ fn next_of<'a>(cursor: &mut Cursor<'a>, goal: Goal) -> Result<Token<'a>, LexFaul
             start: place,
             end: cursor.position(),
         },
-        line_terminator_before,
-        comments: Span { start: at, end: at },
+        line_terminator_before: gap.line_terminator,
+        comments: gap.comments.unwrap_or(Span { start: at, end: at }),
     })
 }

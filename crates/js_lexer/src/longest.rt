@@ -1,5 +1,6 @@
 ghost use Rattle.std.specs.Prelude.{◌≡◌, Some, ◌∷◌, drop};
 ghost use Rattle.std.specs.Str.{chars};
+ghost use Rattle.js_text.specs.Character.{begins_with_digit};
 ghost use Rattle.js_text.specs.Punctuator as spec;
 
 use crate::Punctuator;
@@ -21,7 +22,7 @@ fn begins(text: &str, characters: &[char]) -> bool
 
 /// Whether a digit stands after a text's first character.
 fn digit_follows(text: &str) -> bool
-    ensures { result ≡ spec.begins_with_digit (drop 1 (chars text.now)) }
+    ensures { result ≡ begins_with_digit (drop 1 (chars text.now)) }
 {
     let mut cursor = Cursor::new(text);
     cursor.bump();

@@ -1,15 +1,29 @@
 use crate::Punctuator;
 use js_tree::Loc;
 
-/// What a token is. A word, a numeral and a string literal lend their spelling from the text.
+/// What a token is. All but punctuators lend their spelling from the text.
 #[derive(Clone, Copy, Debug, PartialEq, Eq)]
 pub enum TokenKind<'a> {
-    /// An identifier's name, also a reserved word.
+    /// An identifier's name without escapes, also a reserved word.
     Word(&'a str),
-    /// A decimal number.
+    /// An identifier's name with an escape. It is never a reserved word; `name_of` says its name.
+    EscapedWord(&'a str),
+    /// A number.
     Numeral(&'a str),
-    /// A string literal with its quotes.
+    /// A number that ends with `n`.
+    BigInt(&'a str),
+    /// A string literal with its quotes; `units_of` says its units.
     StringLiteral(&'a str),
+    /// A template without `${`, with its backquotes.
+    NoSubstitutionTemplate(&'a str),
+    /// A template from its backquote to its first `${`.
+    TemplateHead(&'a str),
+    /// A template from the `}` that closes a `${` to the next `${`.
+    TemplateMiddle(&'a str),
+    /// A template from the `}` that closes its last `${` to its backquote.
+    TemplateTail(&'a str),
+    /// A regular expression with its flags.
+    RegularExpression(&'a str),
     /// A punctuator.
     Punctuator(Punctuator),
     /// The end of the text.

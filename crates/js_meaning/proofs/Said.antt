@@ -1,5 +1,5 @@
 -- The meaning of each tree that is read so far is said.
-use Rattle.std.proofs.Common.{◌≡◌, ℕ, Bool, true, false, ◌&&◌, List, refl, ap, ◌∙◌}
+use Rattle.std.proofs.Common.{◌≡◌, ℕ, Bool, true, false, ◌&&◌, List, refl, sym, ap, ◌∙◌}
 use Rattle.js_tree.specs.declared.place.Loc.{Loc}
 use Rattle.js_tree.specs.declared.operators.BinaryOperator.{BinaryOperator}
 use Rattle.js_tree.specs.Plain.{Expr, Exprs, Stmt, Stmts, Declarator, Declarators, IdentifierReference, MaybeStmt, File, MakeFile}
@@ -7,7 +7,7 @@ use Rattle.js_tree.specs.Plain as P
 use Rattle.js_text.specs.Token.{Token}
 use Rattle.js_text.specs.declared.Punctuator.{Punctuator}
 use Rattle.js_text.specs.declared.Punctuator.TheVariants as punctuator
-use Rattle.js_text.specs.Reads.{Reads}
+use Rattle.js_text.specs.Reads.{without_comments, Reads}
 use Rattle.js_text.specs.Grammar as G
 use Rattle.js_text.specs.Grammar.{SpellsExpr, SpellsArguments, SpellsDeclarator, SpellsDeclarators, SpellsStmt, SpellsStmts, SpellsBody, Sentence, Sign, is_target}
 use Rattle.js_value.specs.Operators.{has_answer}
@@ -31,7 +31,7 @@ mutual
   said_expr (G.null_literal word) = refl
   said_expr (G.true_literal word) = refl
   said_expr (G.false_literal word) = refl
-  said_expr (G.number kind) = refl
+  said_expr (G.number kind numeral) = refl
   said_expr (G.string kind) = refl
   said_expr (G.parentheses opening closing o c inner) = said_expr inner
   said_expr (G.call opening closing o c high f xs) = both _ _ (said_expr f) (said_arguments xs)
@@ -74,4 +74,8 @@ said_file : {tree : File} {ts : List Token} → Sentence tree ts → is_said_fil
 said_file (G.file end kind body) = said_body body
 
 pub says_all : SaysAllThatIsRead
-says_all text tree reads = said_file reads.sentence
+says_all text tree reads = sym (said_so tree) ∙ said_file reads.sentence
+  where
+    -- comments have no meaning
+    said_so : (tree : File) → is_said_file (without_comments tree) ≡ is_said_file tree
+    said_so (MakeFile body comments) = refl

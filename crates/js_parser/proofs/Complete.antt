@@ -2,7 +2,7 @@
 use Rattle.std.proofs.Common.{◌≡◌, ℕ, ◌≤◌, Bool, true, false, not, ◌&&◌, List, [], ◌∷◌, ◌++◌, Some, None, codes, inl, inr, refl, sym, ap, subst, ◌∙◌, arith, append_assoc, Option}
 use Rattle.std.proofs.lemmas.Bool.{cond-true, cond-false, cases_Bool, true≢false}
 use Rattle.js_tree.specs.declared.place.Loc.{Loc}
-use Rattle.js_tree.specs.Plain.{Expr, StringLiteral, Stmt, Stmts, Directive, Block, Empty, Expression, If, no_stmt, more_stmt, push_stmts, none_stmt, Declarator, Declarators, no_declarator, push_declarators, File, MakeFile}
+use Rattle.js_tree.specs.Plain.{Expr, NumericLiteral, StringLiteral, Stmt, Stmts, Directive, Block, Empty, Expression, If, no_stmt, more_stmt, push_stmts, none_stmt, Declarator, Declarators, no_declarator, push_declarators, File, MakeFile}
 use Rattle.js_text.specs.Token.{Token, Kind, Word, Numeral, End}
 use Rattle.js_text.specs.Token as T
 use Rattle.js_text.specs.declared.punctuator.Punctuator.{Punctuator}
@@ -18,7 +18,7 @@ use Rattle.js_text.proofs.Words.{written-reserved_word}
 use Rattle.js_parser.proofs.Words.{fits_as}
 use Rattle.js_parser.proofs.Levels.{some_level}
 use Rattle.js_parser.proofs.Lists.{append_stmts, stmts_end, stmts_push, append_declarators, declarators_push, declarators_last}
-use Rattle.js_parser.proofs.CompleteExpr.{same_step, takes, closes, join_of, complete_expr}
+use Rattle.js_parser.proofs.CompleteExpr.{same_step, takes, closes, join_of, numeral-operand, complete_expr}
 
 -- ---- an expression's first token begins a statement
 
@@ -38,7 +38,10 @@ begins (reference {t = t} {word = word} is h) fs us = begins_word t word None _ 
 begins (null_literal {t = t} is) fs us = begins_word t (codes "null") (Some reserved.Null) _ fs us is (written-reserved_word reserved.Null) refl refl
 begins (true_literal {t = t} is) fs us = begins_word t (codes "true") (Some reserved.True) _ fs us is (written-reserved_word reserved.True) refl refl
 begins (false_literal {t = t} is) fs us = begins_word t (codes "false") (Some reserved.False) _ fs us is (written-reserved_word reserved.False) refl refl
-begins (number {t = t} {digits = digits} is) fs us = begins_so t (Numeral digits) _ fs us is refl refl
+begins (number {t = t} {digits = digits} is plain) fs us =
+    let here = numeral-operand digits t.loc plain in
+    begins_so t (Numeral digits) (at (Have (NumericLiteral (Some t.loc) digits) t.loc) (InExpression ∷ fs)) fs us is
+    (ap (λ o. have_if o t.loc (InExpression ∷ fs)) here) (ap (λ o. have_if o t.loc (InExpression ∷ fs)) here)
 begins (string {t = t} {bytes = bytes} is) fs us = begins_so t (T.StringLiteral bytes) _ fs us is refl refl
 begins (parentheses {te = te} opening closing is_opening is_closing d) fs us = begins_so opening (T.Punctuator P.OpenParenthesis) _ fs ((te ++ closing ∷ []) ++ us) is_opening refl refl
 begins (call {tf = tf} {ts = ts} opening closing is_opening is_closing lg dg dx) fs us =

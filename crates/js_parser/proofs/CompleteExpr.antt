@@ -1,5 +1,5 @@
 -- An expression's tokens are read as that expression.
-use Rattle.std.proofs.Common.{◌≡◌, ℕ, ◌<◌, ◌≤◌, true, false, List, [], ◌∷◌, ◌++◌, Some, None, codes, refl, sym, ap, subst, ◌∙◌, arith, append_assoc}
+use Rattle.std.proofs.Common.{◌≡◌, ℕ, ◌<◌, ◌≤◌, true, false, List, [], ◌∷◌, ◌++◌, Some, None, if◌then◌else◌, codes, refl, sym, ap, subst, ◌∙◌, arith, append_assoc}
 use Rattle.std.specs.Prelude.{nat_le}
 use Rattle.std.proofs.lemmas.Bool.{le-leb, lt-leb, cond-true, cond-false}
 use Rattle.js_tree.specs.declared.place.Loc.{Loc}
@@ -13,8 +13,8 @@ use Rattle.js_text.specs.declared.punctuator.Punctuator.TheVariants as P
 use Rattle.js_text.specs.declared.word.ReservedWord.TheVariants as reserved
 use Rattle.js_text.specs.Word.{reserved_word}
 use Rattle.js_text.specs.Level.{level, binary_level, left_level, right_level}
-use Rattle.js_text.specs.Grammar.{through, Is, IsWord, spelled, Sign, plus, minus, less, is_target, SpellsExpr, reference, null_literal, true_literal, false_literal, number, string, parentheses, call, operation, assigns, SpellsArguments, no_argument, last_argument, more_arguments}
-use Rattle.js_parser.specs.private.Machine.{Frame, InBinary, InParentheses, InCall, InAssignment, Mode, Want, Have, Config, at, Join, ByOperator, ByCall, ByAssignment, Apart, join, strength, wants, need, word_operand, have_if, joined, shift, grown, close, close_kind, or_close, have, step, step_kind, then_run, run}
+use Rattle.js_text.specs.Grammar.{through, Is, IsWord, spelled, Sign, plus, minus, less, is_plain_numeral, is_target, SpellsExpr, reference, null_literal, true_literal, false_literal, number, string, parentheses, call, operation, assigns, SpellsArguments, no_argument, last_argument, more_arguments}
+use Rattle.js_parser.specs.private.Machine.{Frame, InBinary, InParentheses, InCall, InAssignment, Mode, Want, Have, Config, at, Join, ByOperator, ByCall, ByAssignment, Apart, join, strength, wants, need, word_operand, numeral_operand, have_if, joined, shift, grown, close, close_kind, or_close, have, step, step_kind, then_run, run}
 use Rattle.js_text.proofs.Words.{written-reserved_word}
 use Rattle.js_parser.proofs.Levels.{left_least, right_least, right_of, low_of, target_high, some_level}
 use Rattle.js_parser.proofs.Lists.{append_exprs, exprs_end, exprs_push, exprs_last}
@@ -66,6 +66,10 @@ pub operand : (f : Frame) (fs : List Frame) (t : Token) (word : List ℕ) (e : E
     run (at Want (f ∷ fs)) (t ∷ ts) ≡ run (at (Have e t.loc) (f ∷ fs)) ts
 operand f fs t word e ts is h = takes Want (f ∷ fs) (at (Have e t.loc) (f ∷ fs)) t (Word word) ts is (ap (λ o. have_if o t.loc (f ∷ fs)) h)
 
+-- a number that is one
+pub numeral-operand : (digits : List ℕ) (l : Loc) → is_plain_numeral digits ≡ true → numeral_operand digits l ≡ Some (NumericLiteral (Some l) digits)
+numeral-operand digits l plain = ap (λ b. if b then Some (NumericLiteral (Some l) digits) else None) plain
+
 pub of_class : (word : List ℕ) (l : Loc) → reserved_word word ≡ None → word_operand (reserved_word word) word l ≡ Some (IdentifierReference (Some l) word)
 of_class word l h = ap (λ c. word_operand c word l) h
 
@@ -77,7 +81,8 @@ mutual
   complete_expr (null_literal {t = u} is) f fs t rest n w = operand f fs u (codes "null") (NullLiteral (Some u.loc)) (t ∷ rest) is (ap (λ c. word_operand c (codes "null") u.loc) (written-reserved_word reserved.Null))
   complete_expr (true_literal {t = u} is) f fs t rest n w = operand f fs u (codes "true") (BooleanLiteral (Some u.loc) true) (t ∷ rest) is (ap (λ c. word_operand c (codes "true") u.loc) (written-reserved_word reserved.True))
   complete_expr (false_literal {t = u} is) f fs t rest n w = operand f fs u (codes "false") (BooleanLiteral (Some u.loc) false) (t ∷ rest) is (ap (λ c. word_operand c (codes "false") u.loc) (written-reserved_word reserved.False))
-  complete_expr (number {t = u} {digits = digits} is) f fs t rest n w = takes Want (f ∷ fs) (at (Have (NumericLiteral (Some u.loc) digits) u.loc) (f ∷ fs)) u (Numeral digits) (t ∷ rest) is refl
+  complete_expr (number {t = u} {digits = digits} is plain) f fs t rest n w =
+      takes Want (f ∷ fs) (at (Have (NumericLiteral (Some u.loc) digits) u.loc) (f ∷ fs)) u (Numeral digits) (t ∷ rest) is (ap (λ o. have_if o u.loc (f ∷ fs)) (numeral-operand digits u.loc plain))
   complete_expr (string {t = u} {bytes = bytes} is) f fs t rest n w = takes Want (f ∷ fs) (at (Have (StringLiteral (Some u.loc) (spelled bytes)) u.loc) (f ∷ fs)) u (T.StringLiteral bytes) (t ∷ rest) is refl
   complete_expr (parentheses {e = e} {l = l} {te = te} opening closing is_opening is_closing d) f fs t rest n w =
       let frame = InParentheses opening.loc in

@@ -1,8 +1,8 @@
 -- What a place counts never falls, so that no tree which it leads to is lower.
-use Rattle.std.proofs.Common.{◌≡◌, ℕ, ◌+◌, ◌<◌, ◌≤◌, max, Bool, true, false, List, [], ◌∷◌, ◌++◌, Option, Some, None, inl, inr, refl, sym, ap, ◌∙◌, subst, arith, le_trans, le_refl}
+use Rattle.std.proofs.Common.{◌≡◌, ℕ, ◌+◌, ◌<◌, ◌≤◌, max, Bool, true, false, List, [], ◌∷◌, ◌++◌, Option, Some, None, if◌then◌else◌, inl, inr, refl, sym, ap, ◌∙◌, subst, arith, le_trans, le_refl}
 use Rattle.js_tree.specs.declared.place.Loc.{Loc}
 use Rattle.js_tree.specs.declared.operators.AssignmentOperator.TheVariants as assign
-use Rattle.js_tree.specs.Plain.{Expr, StringLiteral, Binary, Assignment, Exprs, no_expr, more_expr, push_exprs, Stmt, If, While, Stmts, no_stmt, more_stmt, push_stmts, none_stmt, some_stmt, Declarator, Declarators, no_declarator, more_declarator, push_declarators, MakeFile}
+use Rattle.js_tree.specs.Plain.{Expr, NumericLiteral, StringLiteral, Binary, Assignment, Exprs, no_expr, more_expr, push_exprs, Stmt, If, While, Stmts, no_stmt, more_stmt, push_stmts, none_stmt, some_stmt, Declarator, Declarators, no_declarator, more_declarator, push_declarators, MakeFile}
 use Rattle.js_tree.specs.Height.{height_expr, height_exprs, height_stmt, height_stmts, height_declarator, height_declarators, height_file}
 use Rattle.js_text.specs.Token.{Token, Kind, Word, Numeral, End}
 use Rattle.js_text.specs.Token as T
@@ -11,7 +11,7 @@ use Rattle.js_text.specs.declared.punctuator.Punctuator.TheVariants as P
 use Rattle.js_text.specs.declared.word.ReservedWord.{ReservedWord}
 use Rattle.js_text.specs.declared.word.ReservedWord.TheVariants as reserved
 use Rattle.js_text.specs.Word.{reserved_word}
-use Rattle.js_text.specs.Grammar.{through, is_target, Sentence}
+use Rattle.js_text.specs.Grammar.{through, is_plain_numeral, is_target, Sentence}
 use Rattle.js_parser.specs.private.Machine.{Test, OfIf, OfWhile, Frame, InBinary, InParentheses, InCall, InAssignment, InExpression, InTest, InInitializer, InIf, InElse, InWhile, InBlock, InBody, Want, Have, Begin, After, WantOpen, WantName, HaveName, Finished, Config, at, word_operand, have_if, close_call, want, begin_word, close_block, close_file, begin, is_else, after, Join, ByOperator, ByCall, ByAssignment, Apart, join, joined, grown, in_prologue, statement_of, declarator_of, plain_declarator_of, close, close_kind, or_close, have, name_class, want_name, have_name_kind, want_open, step, then_run, run, start}
 use Rattle.js_parser.specs.private.Floor.{lift, up, floor}
 use Rattle.js_parser.proofs.Complete.{complete, run-append}
@@ -100,14 +100,18 @@ call_up : (fs : List Frame) (l : Loc) (d : Config) → close_call fs l ≡ Some 
 call_up (InCall f lf xs ∷ fs) l d h = lands (up fs (lift (InCall f lf xs) 0)) h (up_mono fs (lift (InCall f lf xs) 0) (max (height_expr f) (height_exprs xs) + 1) (omega arith))
 call_up fs l d h = absurd cc
 
+numeral_up : (b : Bool) (digits : List ℕ) (l : Loc) (fs : List Frame) (d : Config) → have_if (if b then Some (NumericLiteral (Some l) digits) else None) l fs ≡ Some d → up fs 0 ≤ reach d
+numeral_up true digits l fs d h = lands (up fs 0) h (up_mono fs 0 1 (omega arith))
+numeral_up false digits l fs d h = absurd cc
+
 want_up : (k : Kind) (l : Loc) (fs : List Frame) (d : Config) → want k l fs ≡ Some d → up fs 0 ≤ reach d
 want_up (Word word) l fs d h = word_up (reserved_word word) word l fs d h
-want_up (Numeral digits) l fs d h = lands (up fs 0) h (up_mono fs 0 1 (omega arith))
+want_up (Numeral digits) l fs d h = numeral_up (is_plain_numeral digits) digits l fs d h
 want_up (T.StringLiteral bytes) l fs d h = lands (up fs 0) h (up_mono fs 0 1 (omega arith))
 want_up (T.Punctuator P.OpenParenthesis) l fs d h = lands (up fs 0) h (up_mono fs 0 (lift (InParentheses l) 0) (omega arith))
 want_up (T.Punctuator P.CloseParenthesis) l fs d h = call_up fs l d h
 want_up (T.Punctuator p) l fs d h = absurd cc
-want_up End l fs d h = absurd cc
+want_up k l fs d h = absurd cc
 
 begin_word_up : (class : Option ReservedWord) (word : List ℕ) (l : Loc) (fs : List Frame) (d : Config) → begin_word class word l fs ≡ Some d → up fs 0 ≤ reach d
 begin_word_up (Some reserved.Var) word l fs d h = lands (up fs 0) h (up_mono fs 0 (height_declarators no_declarator + 1) (omega arith))
@@ -129,7 +133,7 @@ file_up fs d h = absurd cc
 
 begin_up : (k : Kind) (l : Loc) (fs : List Frame) (d : Config) → begin k l fs ≡ Some d → up fs 0 ≤ reach d
 begin_up (Word word) l fs d h = begin_word_up (reserved_word word) word l fs d h
-begin_up (Numeral digits) l fs d h = lands (up fs 0) h (up_mono fs 0 (lift InExpression 1) (omega arith))
+begin_up (Numeral digits) l fs d h = le_trans (up_mono fs 0 (lift InExpression 0) (omega arith)) (numeral_up (is_plain_numeral digits) digits l (InExpression ∷ fs) d h)
 begin_up (T.StringLiteral bytes) l fs d h = lands (up fs 0) h (up_mono fs 0 (lift InExpression 1) (omega arith))
 begin_up (T.Punctuator P.OpenBrace) l fs d h = lands (up fs 0) h (up_mono fs 0 (lift (InBlock l no_stmt) 0) (omega arith))
 begin_up (T.Punctuator P.CloseBrace) l fs d h = block_up fs l d h
@@ -137,6 +141,7 @@ begin_up (T.Punctuator P.Semicolon) l fs d h = lands (up fs 0) h (up_mono fs 0 1
 begin_up (T.Punctuator P.OpenParenthesis) l fs d h = lands (up fs 0) h (up_mono fs 0 (lift InExpression (lift (InParentheses l) 0)) (omega arith))
 begin_up (T.Punctuator p) l fs d h = absurd cc
 begin_up End l fs d h = file_up fs d h
+begin_up k l fs d h = absurd cc
 
 -- ---- a statement or an expression stands there
 

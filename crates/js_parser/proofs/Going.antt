@@ -13,7 +13,7 @@ use Rattle.js_text.specs.declared.word.ReservedWord.{ReservedWord}
 use Rattle.js_text.specs.declared.word.ReservedWord.TheVariants as reserved
 use Rattle.js_text.specs.Word.{reserved_word}
 use Rattle.js_parser.specs.private.Floor.{up, floor}
-use Rattle.js_parser.specs.private.Machine.{Frame, InParentheses, InCall, InAssignment, InExpression, InTest, InInitializer, InIf, InElse, InWhile, InBlock, InBody, Mode, Want, Have, Begin, After, WantOpen, WantName, HaveName, Finished, Config, at, word_operand, have_if, close_call, want_punctuator, want, begin_word, close_block, begin_punctuator, begin, is_else, after, Join, ByOperator, ByCall, ByAssignment, Apart, join, strength, wants, need, joined, shift, grown, close, close_kind, or_close, have, name_class, want_name, have_name, have_name_kind, open_test, want_open, step_kind, step}
+use Rattle.js_parser.specs.private.Machine.{Frame, InParentheses, InCall, InAssignment, InExpression, InTest, InInitializer, InIf, InElse, InWhile, InBlock, InBody, Mode, Want, Have, Begin, After, WantOpen, WantName, HaveName, Finished, Config, at, word_operand, numeral_operand, have_if, close_call, want_punctuator, want, begin_word, close_block, begin_punctuator, begin, is_else, after, Join, ByOperator, ByCall, ByAssignment, Apart, join, strength, wants, need, joined, shift, grown, close, close_kind, or_close, have, name_class, want_name, have_name, have_name_kind, open_test, want_open, step_kind, step}
 use Rattle.js_parser.specs.private.Turn.{standing, has_ended}
 use Rattle.js_parser.proofs.Ends.{ends}
 
@@ -45,10 +45,10 @@ want_punctuator_going p l fs = tt
 
 want_going : (k : Kind) (l : Loc) (fs : List Frame) → Going (want k l fs)
 want_going (Word word) l fs = have_if_going (word_operand (reserved_word word) word l) l fs
-want_going (Numeral digits) l fs = tt
+want_going (Numeral digits) l fs = have_if_going (numeral_operand digits l) l fs
 want_going (T.StringLiteral bytes) l fs = tt
 want_going (T.Punctuator p) l fs = want_punctuator_going p l fs
-want_going End l fs = tt
+want_going k l fs = tt
 
 begin_word_going : (class : Option ReservedWord) (word : List ℕ) (l : Loc) (fs : List Frame) → Going (begin_word class word l fs)
 begin_word_going (Some reserved.Var) word l fs = tt
@@ -73,10 +73,11 @@ NoEnd k = k ≡ End → ⊥
 
 begin_going : (k : Kind) (l : Loc) (fs : List Frame) → NoEnd k → Going (begin k l fs)
 begin_going (Word word) l fs other = begin_word_going (reserved_word word) word l fs
-begin_going (Numeral digits) l fs other = tt
+begin_going (Numeral digits) l fs other = have_if_going (numeral_operand digits l) l (InExpression ∷ fs)
 begin_going (T.StringLiteral bytes) l fs other = tt
 begin_going (T.Punctuator p) l fs other = begin_punctuator_going p l fs
 begin_going End l fs other = absurd (other refl)
+begin_going k l fs other = tt
 
 after_going : (fs : List Frame) (s : Stmt) (l : Loc) (k : Kind) (lt : Loc) → NoEnd k → Going (after fs s l k lt)
 after_going [] s l k lt other = tt
@@ -176,6 +177,13 @@ ended_within m fs gs ss t h = by_kind t.kind h
     by_kind (Numeral digits) h = absurd (no_other_ends m fs gs ss (Numeral digits) t.loc (λ e. cc) h)
     by_kind (T.StringLiteral bytes) h = absurd (no_other_ends m fs gs ss (T.StringLiteral bytes) t.loc (λ e. cc) h)
     by_kind (T.Punctuator p) h = absurd (no_other_ends m fs gs ss (T.Punctuator p) t.loc (λ e. cc) h)
+    by_kind (T.EscapedWord bytes) h = absurd (no_other_ends m fs gs ss (T.EscapedWord bytes) t.loc (λ e. cc) h)
+    by_kind (T.BigInt bytes) h = absurd (no_other_ends m fs gs ss (T.BigInt bytes) t.loc (λ e. cc) h)
+    by_kind (T.NoSubstitutionTemplate bytes) h = absurd (no_other_ends m fs gs ss (T.NoSubstitutionTemplate bytes) t.loc (λ e. cc) h)
+    by_kind (T.TemplateHead bytes) h = absurd (no_other_ends m fs gs ss (T.TemplateHead bytes) t.loc (λ e. cc) h)
+    by_kind (T.TemplateMiddle bytes) h = absurd (no_other_ends m fs gs ss (T.TemplateMiddle bytes) t.loc (λ e. cc) h)
+    by_kind (T.TemplateTail bytes) h = absurd (no_other_ends m fs gs ss (T.TemplateTail bytes) t.loc (λ e. cc) h)
+    by_kind (T.RegularExpression bytes) h = absurd (no_other_ends m fs gs ss (T.RegularExpression bytes) t.loc (λ e. cc) h)
 
 -- where a token was taken and the file has not ended, it was not the end
 pub goes_on_before_the_end : (m n : Mode) (fs gs : List Frame) (t : Token) → step (at m fs) t ≡ Some (at n gs) → has_ended n ≡ false → t.kind ≡ End → ⊥

@@ -15,7 +15,6 @@ mod Going
 mod Advance
 mod Closing
 mod Reading
-mod ForUnits
 mod Directives
 mod IfNodes
 mod OnStack

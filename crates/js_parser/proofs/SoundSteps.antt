@@ -5,7 +5,7 @@ use Rattle.std.proofs.lemmas.Bool.{leb-true, leb-false, true≢false}
 use Rattle.js_tree.specs.declared.place.Loc.{Loc}
 use Rattle.js_tree.specs.declared.operators.BinaryOperator.{BinaryOperator}
 use Rattle.js_tree.specs.declared.operators.BinaryOperator.TheVariants as binary
-use Rattle.js_tree.specs.Plain.{Expr, Exprs, IdentifierReference, NullLiteral, BooleanLiteral, Parenthesized, Call, push_exprs, Stmt, Stmts, If, While, none_stmt, some_stmt, Declarators, push_declarators}
+use Rattle.js_tree.specs.Plain.{Expr, Exprs, IdentifierReference, NullLiteral, BooleanLiteral, NumericLiteral, Parenthesized, Call, push_exprs, Stmt, Stmts, If, While, none_stmt, some_stmt, Declarators, push_declarators}
 use Rattle.js_text.specs.Token.{Token, Kind, Word, Numeral, End}
 use Rattle.js_text.specs.Token as T
 use Rattle.js_text.specs.declared.punctuator.Punctuator.{Punctuator}
@@ -15,7 +15,7 @@ use Rattle.js_text.specs.declared.word.ReservedWord.TheVariants as reserved
 use Rattle.js_text.specs.Word.{reserved_word}
 use Rattle.js_text.specs.Level.{level}
 use Rattle.js_text.specs.Grammar
-use Rattle.js_text.specs.Grammar.{through, Is, IsWord, spelled, Sign, plus, minus, less, is_target, SpellsExpr, no_argument, last_argument, SpellsStmt, is_string_statement, Sentence}
+use Rattle.js_text.specs.Grammar.{through, Is, IsWord, spelled, Sign, plus, minus, less, is_plain_numeral, is_target, SpellsExpr, no_argument, last_argument, SpellsStmt, is_string_statement, Sentence}
 use Rattle.js_text.specs.Begins.{no_item, no_declared}
 use Rattle.js_parser.specs.private.Machine.{Test, OfIf, OfWhile, Frame, InParentheses, InCall, InAssignment, InExpression, InTest, InInitializer, InElse, Want, Have, Begin, After, WantName, Config, at, Join, ByOperator, ByCall, ByAssignment, Apart, join, strength, wants, need, word_operand, have_if, want, close_call, begin, begin_word, close_block, close_file, is_else, after, in_prologue, statement_of, declarator_of, declared, test_frame, joined, shift, grown, close, close_kind, or_close, have}
 use Rattle.js_parser.proofs.Words.{fits_as}
@@ -56,6 +56,12 @@ sound_word : {fs : List Frame} {u : List Token} (t : Token) (word : List ℕ) (c
 sound_word t word c None d f is of e h = absurd cc
 sound_word {fs = fs} t word c (Some x) d f is of e h = let s = word_spells t word c x is of e in let n = needs_low fs in let k = s.high in same_place h (having f (omega arith) s.spells)
 
+-- a number that is an operand
+sound_numeral : {fs : List Frame} {u : List Token} (t : Token) (digits : List ℕ) (b : Bool) (d : Config) → Frames AnExpression fs u t → t.kind ≡ Numeral digits → is_plain_numeral digits ≡ b →
+    have_if (if b then Some (NumericLiteral (Some t.loc) digits) else None) t.loc fs ≡ Some d → HasRead d (u ++ t ∷ [])
+sound_numeral {fs = fs} t digits true d f is plain h = let n = needs_low fs in same_place h (having f (omega arith) (Grammar.number is plain))
+sound_numeral t digits false d f is plain h = absurd cc
+
 -- ---- an operand begins
 
 sound_close_call : {fs : List Frame} {u : List Token} (t : Token) (d : Config) → Is t P.CloseParenthesis → Frames AnExpression fs u t → close_call fs t.loc ≡ Some d → HasRead d (u ++ t ∷ [])
@@ -67,7 +73,7 @@ sound_close_call t d is f h = absurd cc
 
 pub sound_want : {fs : List Frame} {u : List Token} (t : Token) (k : Kind) (d : Config) → t.kind ≡ k → Frames AnExpression fs u t → want k t.loc fs ≡ Some d → HasRead d (u ++ t ∷ [])
 sound_want t (Word word) d is f h = sound_word t word (reserved_word word) (word_operand (reserved_word word) word t.loc) d f is refl refl h
-sound_want {fs = fs} t (Numeral digits) d is f h = let n = needs_low fs in same_place h (having f (omega arith) (Grammar.number is))
+sound_want t (Numeral digits) d is f h = sound_numeral t digits (is_plain_numeral digits) d f is refl h
 sound_want {fs = fs} t (T.StringLiteral bytes) d is f h = let n = needs_low fs in same_place h (having f (omega arith) (Grammar.string is))
 sound_want t (T.Punctuator P.OpenParenthesis) d is f h = same_place h (wanting refl (λ n. in_parentheses t is f))
 sound_want t (T.Punctuator P.CloseParenthesis) d is f h = sound_close_call t d is f h
@@ -108,7 +114,7 @@ sound_begin_word t word other d is of f h = absurd cc
 
 pub sound_begin : {fs : List Frame} {u : List Token} (t : Token) (k : Kind) (d : Config) → t.kind ≡ k → Frames AStatement fs u t → begin k t.loc fs ≡ Some d → HasRead d (u ++ t ∷ [])
 sound_begin t (Word word) d is f h = sound_begin_word t word (reserved_word word) d is refl f h
-sound_begin t (Numeral digits) d is f h = same_place h (having (in_expression f) (omega arith) (Grammar.number is))
+sound_begin t (Numeral digits) d is f h = sound_numeral t digits (is_plain_numeral digits) d (in_expression f) is refl h
 sound_begin t (T.StringLiteral bytes) d is f h = same_place h (having (in_expression f) (omega arith) (Grammar.string is))
 sound_begin t (T.Punctuator P.OpenBrace) d is f h = same_place h (starting refl (λ n. in_block t is f Grammar.no_statement))
 sound_begin t (T.Punctuator P.CloseBrace) d is f h = sound_close_block t d is f h

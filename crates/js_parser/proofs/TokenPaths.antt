@@ -1,15 +1,17 @@
 -- Tokens of one text: two lists of them go the same way.
-use Rattle.std.proofs.Common.{◌≡◌, ℕ, ◌<◌, List, [], ◌∷◌, ◌++◌, Option, Some, None, refl, sym, ap, ◌∙◌, subst, arith}
+use Rattle.std.proofs.Common.{◌≡◌, ℕ, ◌<◌, List, [], ◌∷◌, ◌++◌, Option, Some, None, refl, sym, ap, ap₂, ◌∙◌, subst, arith, append-nil, append_assoc, chars}
+use Rattle.js_tree.specs.declared.words.Comment.{Comment}
 use Rattle.js_tree.specs.Plain.{Stmts, File, MakeFile}
 use Rattle.js_tree.specs.Height.{height_file}
 use Rattle.js_text.specs.Place.{Place}
 use Rattle.js_text.specs.declared.goal.Goal.TheVariants.{Div}
 use Rattle.js_text.specs.Token.{Token}
-use Rattle.js_text.specs.Lex.{next_token, token_place, offset_of}
+use Rattle.js_text.specs.Lex.{next_token, token_place, offset_of, characters_of}
+use Rattle.js_lexer.proofs.Lex.{next_token-text}
 use Rattle.js_text.specs.Grammar.{Sentence}
 use Rattle.js_parser.specs.private.Machine.{Frame, Finished, Config, at, step, then_run, run, start}
 use Rattle.js_parser.specs.private.Floor.{floor}
-use Rattle.js_text.specs.Reads.{Lexes, no_token, one_more, goal_of, start_of, Reads, NoTree, TooHigh}
+use Rattle.js_text.specs.Reads.{Lexes, no_token, one_more, goal_of, comments_of_token, comments_of_tokens, comments_of, without_comments, start_of, Reads, NoTree, TooHigh}
 use Rattle.js_parser.proofs.Complete.{complete, run-append, dead, bare}
 use Rattle.js_parser.proofs.Sound.{sound}
 use Rattle.js_parser.proofs.Floor.{deep}
@@ -66,12 +68,31 @@ pub taken_none : (from : Place) → Taken from from start
 taken_none from = record { tokens = []; lexed = no_token; taken = refl }
 
 -- one token more
-pub taken_more : {from here there : Place} (c d : Config) (t : Token) → Taken from here c → next_token (goal_of t.kind) here ≡ Some (t, there) → step c t ≡ Some d → Taken from there d
+abbrev pub taken_more : {from here there : Place} (c d : Config) (t : Token) → Taken from here c → next_token (goal_of t.kind) here ≡ Some (t, there) → step c t ≡ Some d → Taken from there d
 taken_more c d t s e h = record {
   tokens = s.tokens ++ t ∷ [];
   lexed = lexes-append s.lexed (one_more e no_token);
   taken = run-append start s.tokens (t ∷ []) ∙ ap (λ o. then_run o (λ x. run x (t ∷ []))) s.taken ∙ ap (λ o. then_run o (λ x. run x [])) h;
 }
+
+-- the places of a run are of one text
+pub lexes-text : {p q : Place} {ts : List Token} → Lexes p ts q → characters_of q ≡ characters_of p
+lexes-text no_token = refl
+lexes-text (one_more {place = p} {between = m} {token = t} e v) = lexes-text v ∙ next_token-text (goal_of t.kind) p m t e
+
+-- the comments before one token more
+pub comments-more : (text : List ℕ) (ts : List Token) (t : Token) → comments_of_tokens text (ts ++ t ∷ []) ≡ comments_of_tokens text ts ++ comments_of_token text t
+comments-more text [] t = append-nil (comments_of_token text t)
+comments-more text (u ∷ ts) t =
+    ap (λ xs. comments_of_token text u ++ xs) (comments-more text ts t) ∙ sym (append_assoc (comments_of_token text u) (comments_of_tokens text ts) (comments_of_token text t))
+
+-- a tree is its body and its comments
+whole_tree : (tree : File) (body : Stmts) (comments : List Comment) → without_comments tree ≡ MakeFile body [] → comments_of tree ≡ comments → tree ≡ MakeFile body comments
+whole_tree (MakeFile b c) body comments h same = let one : b ≡ body = cc in ap₂ (λ x y. MakeFile x y) one same
+
+-- and no higher than its body
+same_height : (tree : File) → height_file (without_comments tree) ≡ height_file tree
+same_height (MakeFile b c) = refl
 
 -- the file has not ended
 abbrev pub GoingOn : Config → Type 0
@@ -109,7 +130,7 @@ no_tree {text = text} {here = here} c s going refuses place there = record {
   stuck = λ t after e. dead (s.tokens ++ t ∷ []) (run-append start s.tokens (t ∷ []) ∙ ap (λ o. then_run o (λ x. run x (t ∷ []))) s.taken ∙ ap (λ o. then_run o (λ x. run x [])) (refuses t after e));
   none = λ tree r.
       let b = bare r.sentence in
-      let n = next_of_sentence c s going tree b.0 r.tokens r.end b.1 r.lexed r.sentence in
+      let n = next_of_sentence c s going (without_comments tree) b.0 r.tokens r.end b.1 r.lexed r.sentence in
       let stuck : run c (n.0 ∷ n.2) ≡ None = ap (λ o. then_run o (λ x. run x n.2)) (refuses n.0 n.1 n.3) in
       let e = n.4 in cc;
 }
@@ -124,23 +145,28 @@ too_high {text = text} {here = here} c s limit lt place there = record {
       let found = goes_on start c b.0 s.lexed r.lexed s.taken (complete (subst (λ x. Sentence x r.tokens) b.1 r.sentence)) in
       let is : Sentence (MakeFile b.0 []) (s.tokens ++ found.others) = subst (λ x. Sentence (MakeFile b.0 []) x) found.joins (subst (λ x. Sentence x r.tokens) b.1 r.sentence) in
       let low = deep s.tokens found.others c b.0 s.taken is in
-      subst (λ x. limit < height_file x) (sym b.1) (omega arith);
+      subst (λ n. limit < n) (same_height tree) (subst (λ x. limit < height_file x) (sym b.1) (omega arith));
 }
 
 -- the file has ended: it is the text's tree
-pub reads_whole : {text : List ℕ} {here : Place} (ss : Stmts) (fs : List Frame) → Taken (start_of text) here (at (Finished ss) fs) → Reads text (MakeFile ss [])
-reads_whole {here = here} ss fs s = record { tokens = s.tokens; end = here; lexed = s.lexed; sentence = sound s.tokens ss fs s.taken }
+pub reads_whole : {text : List ℕ} {here : Place} (ss : Stmts) (fs : List Frame) (comments : List Comment) (s : Taken (start_of text) here (at (Finished ss) fs)) →
+    comments ≡ comments_of_tokens (chars text) s.tokens → Reads text (MakeFile ss comments)
+reads_whole {here = here} ss fs comments s same =
+    record { tokens = s.tokens; end = here; lexed = s.lexed; sentence = sound s.tokens ss fs s.taken; comments = same }
 
 -- and no other is
-pub reads_only : {text : List ℕ} {here : Place} (ss : Stmts) (fs : List Frame) → Taken (start_of text) here (at (Finished ss) fs) → (tree : File) → Reads text tree → tree ≡ MakeFile ss []
-reads_only ss fs s tree r =
+pub reads_only : {text : List ℕ} {here : Place} (ss : Stmts) (fs : List Frame) (comments : List Comment) (s : Taken (start_of text) here (at (Finished ss) fs)) →
+    comments ≡ comments_of_tokens (chars text) s.tokens → (tree : File) → Reads text tree → tree ≡ MakeFile ss comments
+reads_only {text = text} ss fs comments s same tree r =
     let b = bare r.sentence in
     let whole = complete (subst (λ x. Sentence x r.tokens) b.1 r.sentence) in
     let found = goes_on start (at (Finished ss) fs) b.0 s.lexed r.lexed s.taken whole in
     let rest : run (at (Finished ss) fs) found.others ≡ Some (at (Finished b.0) []) =
     sym (run-append start s.tokens found.others ∙ ap (λ o. then_run o (λ x. run x found.others)) s.taken) ∙ ap (run start) (sym found.joins) ∙ whole in
-    b.1 ∙ by_rest b.0 found.others rest
+    let last = by_rest b.0 found.others rest in
+    let tokens : r.tokens ≡ s.tokens = found.joins ∙ ap (λ ts. s.tokens ++ ts) last.1 ∙ append-nil s.tokens in
+    whole_tree tree ss comments (b.1 ∙ ap (λ x. MakeFile x []) last.0) (r.comments ∙ ap (comments_of_tokens (chars text)) tokens ∙ sym same)
   where
-    by_rest : (body : Stmts) (others : List Token) → run (at (Finished ss) fs) others ≡ Some (at (Finished body) []) → MakeFile body [] ≡ MakeFile ss []
-    by_rest body [] r = let same : ss ≡ body = cc in ap (λ x. MakeFile x []) (sym same)
+    by_rest : (body : Stmts) (others : List Token) → run (at (Finished ss) fs) others ≡ Some (at (Finished body) []) → (body ≡ ss) × (others ≡ [])
+    by_rest body [] r = let same : body ≡ ss = cc in (same, refl)
     by_rest body (t ∷ ts) r = let none = finished_stops ss fs t ts in absurd cc

@@ -9,7 +9,7 @@ use crate::frame::{Frame, Mode, Test, Turn, discard};
 use crate::prologue::statement;
 use crate::read::{Declared, ReadStatements};
 use crate::stack::Stack;
-use crate::want::have_word;
+use crate::want::{have_numeral, have_word};
 use crate::{Refusal, make};
 use items::Items;
 use js_lexer::{Punctuator, TokenKind};
@@ -139,7 +139,7 @@ pub(crate) fn begin(
         TokenKind::Word(word) => begin_word(alloc, stack, reserved_word(word), word, kind, loc),
         TokenKind::Numeral(digits) => {
             stack.push(Frame::InExpression)?;
-            Ok(Turn::To(Mode::Have(make::number(alloc, digits, loc)?)))
+            have_numeral(alloc, stack, digits, kind, loc)
         }
         TokenKind::StringLiteral(spelling) => {
             stack.push(Frame::InExpression)?;
@@ -147,5 +147,6 @@ pub(crate) fn begin(
         }
         TokenKind::Punctuator(punctuator) => begin_punctuator(alloc, stack, punctuator, kind, loc),
         TokenKind::End => close_file(stack, kind, loc),
+        _ => Err(Refusal::Syntax),
     }
 }

@@ -18,7 +18,6 @@ mod reader;
 mod refused;
 mod stack;
 mod turn;
-mod units;
 mod want;
 
 pub use reader::parse;

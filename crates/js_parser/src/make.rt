@@ -10,7 +10,6 @@ ghost use Rattle.js_parser.specs.private.Make.{Makes, MakesStatement, MakesArgum
 
 use crate::place::through;
 use crate::read::{Arguments, Declared, ReadExpression, ReadStatement, ReadStatements};
-use crate::units::units_of;
 use items::{Boxed, Memory, Text};
 use js_tree::{
     AssignmentOperator, BinaryOperator, Declarator, Expr, ExprNode, Loc, Name, Pattern,
@@ -98,7 +97,7 @@ pub(crate) fn string(alloc: Global, spelling: &str, loc: Loc) -> Result<ReadExpr
 {
     let string = Spelled {
         spelling: Text::from_str(alloc, spelling)?,
-        units: units_of(alloc, spelling)?,
+        units: js_lexer::units_of(alloc, spelling)?,
     };
     let tree = Expr {
         loc: Some(loc),

@@ -1,11 +1,12 @@
-ghost use Rattle.std.specs.Prelude.{◌≡◌, ◌≤◌, IfOk, IfErr};
+ghost use Rattle.std.specs.Prelude.{◌≡◌, ◌≤◌, ◌++◌, IfOk, IfErr, OnOk};
+ghost use Rattle.std.specs.Str.{chars, IsCharBoundary};
 ghost use Rattle.js_tree.specs.Height.{height_file};
 ghost use Rattle.js_tree.specs.Plain as P;
-ghost use Rattle.js_text.specs.Lex.{token_place, offset_of};
+ghost use Rattle.js_text.specs.Lex.{characters_of, token_place, offset_of};
 ghost use Rattle.js_text.specs.declared.goal.Goal.TheVariants.{Div};
 ghost use Rattle.js_tree.specs.Tree.{plain_file};
 ghost use Rattle.js_lexer.specs.Token.{plain_token};
-ghost use Rattle.js_text.specs.Reads.{Reads};
+ghost use Rattle.js_text.specs.Reads.{Reads, comments_of_token};
 ghost use Rattle.js_parser.specs.private.Turn.{standing, reached, Goes, Taken, TakesOne, Refuses};
 ghost use Rattle.js_parser.specs.Refused.{RefusesText};
 ghost use Rattle.js_parser.specs.private.Machine as machine;
@@ -17,9 +18,9 @@ use crate::stack::Stack;
 use crate::turn::step;
 use crate::{Refusal, Refused};
 use items::{Items, Memory};
-use js_lexer::{Goal, Lexer, Token};
+use js_lexer::{Goal, Lexer, Token, comments};
 use js_text::{Limits, Text};
-use js_tree::File;
+use js_tree::{Comment, File};
 use std::alloc::{AllocError, Global};
 
 /// Where a token has led: to the end of the file, or on.
@@ -74,16 +75,36 @@ fn take(
     step(alloc, stack, mode, token.kind, token.loc)
 }
 
-/// Reads one token more.
+/// Puts the comments before a token after those that were kept.
+fn keep(
+    alloc: Global,
+    kept: &mut Items<Comment>,
+    text: &str,
+    token: &Token<'_>,
+) -> Result<(), Memory>
+    requires { IsCharBoundary text.now (plain_token token.now).comments.start }
+    ensures { OnOk result (kept.new ≡ kept.old ++ comments_of_token (chars text.now) (plain_token token.now)) }
+{
+    let found = comments(alloc, text, token.comments, token.loc.start)?.into_vec();
+    for comment in found {
+        kept.push(comment)?;
+    }
+    Ok(())
+}
+
+/// Reads one token more, and keeps the comments before it.
 #[tactic(auto, using(crate::proofs::Advance::start_is, crate::proofs::TokenPaths::refuses_none, crate::proofs::TokenPaths::refuses_one))]
 fn turn(
     alloc: Global,
+    text: &str,
     lexer: &mut Lexer<'_>,
     stack: &mut Stack,
     mode: Mode,
+    kept: &mut Items<Comment>,
     limit: u64,
 ) -> Result<Progress, Refused>
-    ensures taken { IfOk result (λ next. TakesOne lexer.old lexer.new (view.frames stack.old) (view.mode mode) (view.frames stack.new) next limit) }
+    requires { characters_of lexer.old ≡ chars text.now }
+    ensures taken { IfOk result (λ next. TakesOne text.now lexer.old lexer.new (view.frames stack.old) (view.mode mode) (view.frames stack.new) next kept.old kept.new limit) }
     ensures refused { IfErr result (λ refused. Refuses refused lexer.old (view.frames stack.old) (view.mode mode) limit) }
 {
     let token = match lexer.next(Goal::Div) {
@@ -95,12 +116,16 @@ fn turn(
             });
         }
     };
+    let at = token.start;
+    if keep(alloc, kept, text, &token).is_err() {
+        return Err(Refused {
+            at,
+            why: Refusal::Memory,
+        });
+    }
     match take(alloc, stack, mode, &token, limit) {
         Ok(next) => Ok(progress_of(next)),
-        Err(why) => Err(Refused {
-            at: token.start,
-            why,
-        }),
+        Err(why) => Err(Refused { at, why }),
     }
 }
 
@@ -138,6 +163,7 @@ pub fn parse(alloc: Global, text: &Text, limits: Limits) -> Result<File, Refused
     ensures within { IfOk result (λ file. height_file (plain_file file) ≤ limits.height) }
     ensures refused { IfErr result (λ refused. RefusesText refused text.now limits.height) }
 {
+    let source = text.as_str();
     let mut lexer = Lexer::new(text);
     let Ok(mut stack) = opened(alloc) else {
         return Err(Refused {
@@ -146,12 +172,21 @@ pub fn parse(alloc: Global, text: &Text, limits: Limits) -> Result<File, Refused
         });
     };
     let mut mode = Mode::Begin;
+    let mut comments = Items::new(alloc);
     loop {
-        match turn(alloc, &mut lexer, &mut stack, mode, limits.height)? {
+        match turn(
+            alloc,
+            source,
+            &mut lexer,
+            &mut stack,
+            mode,
+            &mut comments,
+            limits.height,
+        )? {
             Progress::Ended(body) => {
                 return Ok(File {
                     body: body.items,
-                    comments: Items::new(alloc),
+                    comments,
                 });
             }
             Progress::On(next) => mode = next,

@@ -1,4 +1,7 @@
-ghost use Rattle.std.specs.Prelude.{IfOk};
+ghost use Rattle.std.specs.Prelude.{◌≡◌, IfOk};
+ghost use Rattle.std.specs.Char.{is_ascii_digit};
+ghost use Rattle.std.specs.List.{list_all};
+ghost use Rattle.js_text.specs.Grammar.{is_plain_numeral};
 ghost use Rattle.js_lexer.specs.Token.{kind_of};
 ghost use Rattle.js_parser.specs.private.Machine as machine;
 ghost use Rattle.js_parser.specs.private.View.{Turns, IsOperand};
@@ -46,6 +49,41 @@ pub(crate) fn have_word(
     match operand(alloc, class, word, loc)? {
         Some(part) => Ok(Turn::To(Mode::Have(part))),
         None => Err(Refusal::Syntax),
+    }
+}
+
+/// Whether a number is one of those that are read: `0`, or decimal digits that begin with another.
+fn is_plain_numeral(digits: &[u8]) -> bool
+    ensures { result ≡ is_plain_numeral digits.now }
+{
+    match digits {
+        [] => false,
+        [digit] => digit.is_ascii_digit(),
+        [digit, ..] => *digit != b'0' && all_digits(digits),
+    }
+}
+
+/// Whether all of these bytes are decimal digits.
+fn all_digits(digits: &[u8]) -> bool
+    ensures { result ≡ list_all is_ascii_digit digits.now }
+{
+    digits.iter().all(|digit| digit.is_ascii_digit())
+}
+
+/// A number where an operand is due.
+pub(crate) fn have_numeral(
+    alloc: Global,
+    stack: &Stack,
+    digits: &str,
+    kind: TokenKind<'_>,
+    loc: Loc,
+) -> Result<Turn, Refusal>
+    ensures { Turns result (view.frames stack.now) (machine.have_if (machine.numeral_operand digits.now loc) loc (view.frames stack.now)) (kind_of kind.entry) loc 0 }
+{
+    if is_plain_numeral(digits.as_bytes()) {
+        Ok(Turn::To(Mode::Have(make::number(alloc, digits, loc)?)))
+    } else {
+        Err(Refusal::Syntax)
     }
 }
 
@@ -101,11 +139,11 @@ pub(crate) fn want(
 {
     match kind {
         TokenKind::Word(word) => have_word(alloc, stack, reserved_word(word), word, kind, loc),
-        TokenKind::Numeral(digits) => Ok(Turn::To(Mode::Have(make::number(alloc, digits, loc)?))),
+        TokenKind::Numeral(digits) => have_numeral(alloc, stack, digits, kind, loc),
         TokenKind::StringLiteral(spelling) => Ok(Turn::To(Mode::Have(make::string(
             alloc, spelling, loc,
         )?))),
         TokenKind::Punctuator(punctuator) => want_punctuator(alloc, stack, punctuator, kind, loc),
-        TokenKind::End => Err(Refusal::Syntax),
+        _ => Err(Refusal::Syntax),
     }
 }

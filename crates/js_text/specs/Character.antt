@@ -1,5 +1,5 @@
 -- The classes of characters in a source text (ECMA-262, 12).
-use Rattle.std.specs.Prelude.{ℕ, ◌==◌, Bool, ◌||◌}
+use Rattle.std.specs.Prelude.{ℕ, ◌==◌, Bool, false, ◌||◌, List, [], ◌∷◌}
 use Rattle.std.specs.Int.{is_in_range}
 use Rattle.std.specs.Char.{is_ascii_digit}
 use Rattle.unicode_ident.specs.Ident.{is_xid_start, is_xid_continue}
@@ -25,3 +25,13 @@ continues_identifier c = is_xid_continue c || (c == 0x24) || (c == 0x200C) || (c
 -- a decimal digit (12.9.3)
 unfoldable pub is_digit : ℕ → Bool
 is_digit c = is_ascii_digit c
+
+-- a digit stands here
+abbrev pub begins_with_digit : List ℕ → Bool
+begins_with_digit [] = false
+begins_with_digit (c ∷ cs) = is_digit c
+
+-- this character stands here
+abbrev pub begins_with_character : ℕ → List ℕ → Bool
+begins_with_character x [] = false
+begins_with_character x (c ∷ cs) = c == x

@@ -1,6 +1,8 @@
 -- Which tokens spell which tree (ECMA-262, 13 to 16), a constructor a production, for a small language. An expression
 -- and a statement have the location from their first token to their last; the `;` of a statement is its last.
-use Rattle.std.specs.Prelude.{◌≡◌, ℕ, ◌≤◌, Bool, true, false, List, [], ◌∷◌, ◌++◌, Some, codes, None}
+use Rattle.std.specs.Prelude.{◌≡◌, ℕ, ◌≤◌, ◌==◌, Bool, true, false, not, ◌&&◌, List, [], ◌∷◌, ◌++◌, Some, codes, None}
+use Rattle.std.specs.Char.{is_ascii_digit}
+use Rattle.std.specs.List.{list_all}
 use Rattle.js_tree.specs.declared.place.Loc.{Loc}
 use Rattle.js_tree.specs.declared.words.Spelled.{Spelled}
 use Rattle.js_tree.specs.declared.operators.AssignmentOperator.TheVariants as assign
@@ -31,6 +33,12 @@ IsWord t word = t.kind ≡ Word word
 abbrev pub spelled : List ℕ → Spelled
 spelled bytes = record { spelling = bytes; units = units_of bytes }
 
+-- of the numbers (12.9.3), those that are read so far: `0`, and decimal digits that begin with another
+abbrev pub is_plain_numeral : List ℕ → Bool
+is_plain_numeral [] = false
+is_plain_numeral (digit ∷ []) = is_ascii_digit digit
+is_plain_numeral (digit ∷ next ∷ digits) = not (digit == 0x30) && list_all is_ascii_digit (digit ∷ next ∷ digits)
+
 -- the punctuator of a binary operator, of those that are read
 pub data Sign : BinaryOperator → Punctuator → Type 0 where
   plus : Sign binary.Add P.Plus
@@ -54,7 +62,7 @@ mutual
         SpellsExpr (BooleanLiteral (Some t.loc) true) t.loc (t ∷ [])
     false_literal : {t : Token} → IsWord t (codes "false") →
         SpellsExpr (BooleanLiteral (Some t.loc) false) t.loc (t ∷ [])
-    number : {t : Token} {digits : List ℕ} → t.kind ≡ Numeral digits →
+    number : {t : Token} {digits : List ℕ} → t.kind ≡ Numeral digits → is_plain_numeral digits ≡ true →
         SpellsExpr (NumericLiteral (Some t.loc) digits) t.loc (t ∷ [])
     string : {t : Token} {bytes : List ℕ} → t.kind ≡ T.StringLiteral bytes →
         SpellsExpr (StringLiteral (Some t.loc) (spelled bytes)) t.loc (t ∷ [])
@@ -165,7 +173,7 @@ pub data SpellsBody : Stmts → List Token → Token → Type 0 where
   statements : {ss : Stmts} {ts : List Token} {next : Token} → begins_with_string ss ≡ false →
       SpellsStmts ss ts next → SpellsBody ss ts next
 
--- a file (16.1), and the end; there are no comments in it
+-- a file (16.1), and the end; the tokens say nothing of its comments
 pub data Sentence : File → List Token → Type 0 where
   file : {ss : Stmts} {ts : List Token} (end : Token) → end.kind ≡ End → SpellsBody ss ts end →
       Sentence (MakeFile ss []) (ts ++ end ∷ [])

@@ -2,7 +2,9 @@
 use Rattle.std.specs.Prelude.{ℕ, ◌==◌, Bool, true, false, not, ◌&&◌, List, [], ◌∷◌, length, drop, codes, Option, Some, None, if◌then◌else◌}
 use Rattle.js_text.specs.declared.punctuator.Punctuator.{Punctuator}
 use Rattle.js_text.specs.declared.punctuator.Punctuator.TheVariants as mark
-use Rattle.js_text.specs.Character.{is_digit}
+use Rattle.js_text.specs.declared.goal.Goal.{Goal}
+use Rattle.js_text.specs.declared.goal.Goal.TheVariants as goal
+use Rattle.js_text.specs.Character.{begins_with_digit}
 
 -- how each is written
 abbrev pub spelling_of : Punctuator → List ℕ
@@ -81,11 +83,6 @@ begins_with [] cs = true
 begins_with (x ∷ text) [] = false
 begins_with (x ∷ text) (c ∷ cs) = (c == x) && begins_with text cs
 
--- these characters begin with a digit
-abbrev pub begins_with_digit : List ℕ → Bool
-begins_with_digit [] = false
-begins_with_digit (c ∷ cs) = is_digit c
-
 -- a punctuator may stand before these characters: `?.` before no digit, any other before all
 abbrev pub may_stand_before : Punctuator → List ℕ → Bool
 may_stand_before mark.OptionalChain cs = not (begins_with_digit cs)
@@ -104,16 +101,9 @@ first_punctuator (p ∷ ps) cs = if begins_with_punctuator p cs then Some p else
 unfoldable pub longest_punctuator : List ℕ → Option Punctuator
 longest_punctuator cs = first_punctuator punctuators cs
 
--- the punctuators that are tokens so far
-abbrev pub is_taken : Punctuator → Bool
-is_taken mark.OpenParenthesis = true
-is_taken mark.CloseParenthesis = true
-is_taken mark.OpenBrace = true
-is_taken mark.CloseBrace = true
-is_taken mark.Comma = true
-is_taken mark.Semicolon = true
-is_taken mark.Assign = true
-is_taken mark.Plus = true
-is_taken mark.Minus = true
-is_taken mark.LessThan = true
-is_taken _ = false
+-- a punctuator is a token for a goal: `/` and `/=` are for Div alone (12.1)
+abbrev pub is_for : Goal → Punctuator → Bool
+is_for goal.Div p = true
+is_for _ mark.Slash = false
+is_for _ mark.DivideAssign = false
+is_for _ p = true

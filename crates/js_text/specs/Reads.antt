@@ -1,9 +1,11 @@
 -- Which tree a text has, and why it has none: its tokens are a sentence for the tree, or come to where none can follow.
 use Rattle.std.specs.Prelude.{◌≡◌, ℕ, ◌<◌, List, [], ◌∷◌, ◌++◌, Some}
 use Rattle.std.specs.Str.{chars}
-use Rattle.js_tree.specs.Plain.{File}
+use Rattle.js_tree.specs.declared.words.Comment.{Comment}
+use Rattle.js_tree.specs.Plain.{File, MakeFile}
 use Rattle.js_tree.specs.Height.{height_file}
-use Rattle.js_text.specs.Place.{Place}
+use Rattle.js_text.specs.Place.{Place, place_at}
+use Rattle.js_text.specs.Gap.{comments_before}
 use Rattle.js_text.specs.declared.goal.Goal.{Goal}
 use Rattle.js_text.specs.declared.goal.Goal.TheVariants.{Div}
 use Rattle.js_text.specs.Token.{Kind, Token}
@@ -11,7 +13,8 @@ use Rattle.js_text.specs.Lex.{next_token, token_place, offset_of}
 use Rattle.js_text.specs.Grammar.{Sentence, Dead}
 use Rattle.js_text.specs.Begins.{BeginsMore}
 
--- the goal for which a token of this kind is lexed: so far each is the same for Div and for RegExp
+-- the goal for which a token of this kind is lexed: those that have a place in the grammar so far are the same for Div and for
+-- RegExp, or stand for Div alone
 abbrev pub goal_of : Kind → Goal
 goal_of kind = Div
 
@@ -22,16 +25,33 @@ pub data Lexes : Place → List Token → Place → Type 0 where
       next_token (goal_of token.kind) place ≡ Some (token, between) → Lexes between tokens end →
       Lexes place (token ∷ tokens) end
 
+-- the comments before a token of a text of these characters: those from the start of its span of comments on
+abbrev pub comments_of_token : List ℕ → Token → List Comment
+comments_of_token text t = comments_before t.loc.start (place_at text t.comments.start)
+
+-- the comments before these tokens, in order
+abbrev pub comments_of_tokens : List ℕ → List Token → List Comment
+comments_of_tokens text [] = []
+comments_of_tokens text (t ∷ ts) = comments_of_token text t ++ comments_of_tokens text ts
+
+-- the comments of a tree, and the tree without them
+abbrev pub comments_of : File → List Comment
+comments_of (MakeFile body comments) = comments
+
+abbrev pub without_comments : File → File
+without_comments (MakeFile body comments) = MakeFile body []
+
 -- the place before a text's first character
 abbrev pub start_of : List ℕ → Place
 start_of text = record { before = []; after = chars text }
 
--- the text of these bytes has this tree
+-- the text of these bytes has this tree: its tokens are a sentence, and its comments are those before them
 pub record Reads (text : List ℕ) (tree : File) : Type 0 where
   pub tokens : List Token
   pub end : Place
   pub lexed : Lexes (start_of text) tokens end
-  pub sentence : Sentence tree tokens
+  pub sentence : Sentence (without_comments tree) tokens
+  pub comments : comments_of tree ≡ comments_of_tokens (chars text) tokens
 
 -- after the tokens that lead to a place of the text, so many bytes stand before the next token, or what is none, or the end
 pub record Reaches (text : List ℕ) (at : ℕ) : Type 0 where

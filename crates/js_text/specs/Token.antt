@@ -4,11 +4,21 @@ use Rattle.js_tree.specs.declared.place.Loc.{Loc}
 use Rattle.js_text.specs.declared.punctuator.Punctuator as P
 use Rattle.js_text.specs.Punctuator.{spelling_of}
 
--- what a token is; a word, a numeral and a string literal have the bytes of their spelling
+-- what a token is, with the bytes of its spelling
 pub data Kind : Type 0 where
+  -- an identifier's name without escapes, and one with an escape (12.7)
   Word : List ℕ → Kind
+  EscapedWord : List ℕ → Kind
+  -- a number, and one that ends with `n` (12.9.3)
   Numeral : List ℕ → Kind
+  BigInt : List ℕ → Kind
   StringLiteral : List ℕ → Kind
+  -- the parts of a template (12.9.6)
+  NoSubstitutionTemplate : List ℕ → Kind
+  TemplateHead : List ℕ → Kind
+  TemplateMiddle : List ℕ → Kind
+  TemplateTail : List ℕ → Kind
+  RegularExpression : List ℕ → Kind
   Punctuator : P.Punctuator → Kind
   -- the end of the text
   End : Kind
@@ -16,8 +26,15 @@ pub data Kind : Type 0 where
 -- the bytes of a token's spelling
 abbrev pub spelling : Kind → List ℕ
 spelling (Word bytes) = bytes
+spelling (EscapedWord bytes) = bytes
 spelling (Numeral bytes) = bytes
+spelling (BigInt bytes) = bytes
 spelling (StringLiteral bytes) = bytes
+spelling (NoSubstitutionTemplate bytes) = bytes
+spelling (TemplateHead bytes) = bytes
+spelling (TemplateMiddle bytes) = bytes
+spelling (TemplateTail bytes) = bytes
+spelling (RegularExpression bytes) = bytes
 spelling (Punctuator p) = spelling_of p
 spelling End = []
 

@@ -1,7 +1,7 @@
 // Calls of the program's top call over memory.
 use crate::spelled::{bytes_of, push_lines, text_of};
 use crate::wanting::{WantingSink, WantingStore};
-use cov_base::{Memory, MemorySink, MemoryStore, SureSink, SureStore};
+use cov_base::{Memory, MemorySink, MemoryStore, Store, SureSink, SureStore};
 use cov_tool::{Status, cov};
 use std::alloc::Global;
 use std::collections::BTreeMap;
@@ -127,6 +127,28 @@ impl Setting {
         } else {
             self.call_failing(alloc, words.as_slice(), page)
         }
+    }
+
+    /// The same, and what the store then holds at a path. False where the row names no path.
+    pub(crate) fn call_putting(
+        &self,
+        alloc: Global,
+        rest: &str,
+        page: &mut String,
+    ) -> Result<bool, Memory> {
+        let Some((path, words)) = rest.split_once(' ') else {
+            return Ok(false);
+        };
+        let words = words_of(alloc, words)?;
+        let mut store = SureStore::new(alloc, self.held(alloc)?)?;
+        let mut out = SureSink::new(alloc)?;
+        let mut err = SureSink::new(alloc)?;
+        let status = cov(alloc, words.as_slice(), &mut store, &mut out, &mut err);
+        push_answer(alloc, out.taken(), err.taken(), status, page)?;
+        if let Ok(Some(bytes)) = store.read(path) {
+            push_lines(page, "+", bytes.as_slice())?;
+        }
+        Ok(true)
     }
 
     fn call_surely(

@@ -7,7 +7,9 @@
 //     wants WHO N      from here on call N to `store`, `out` or `err` wants memory
 //     (no word)        from here on the store is empty, and nothing fails
 //     cov WORDS        calls the program: below it stand the lines printed (`>`) and said (`!`), and the status (`=`)
+//     puts PATH WORDS  the same, and what the store then holds at the path (`+`)
 //     tokens TEXT      the text's tokens
+//     template TEXT    the token that continues a template at the text's start
 //     tree TEXT        the tree that the text is read to
 //     names TEXT       the names that the text writes, and what it asks for
 //     height TEXT      the height of the tree that the text is read to
@@ -19,7 +21,7 @@ use crate::call::Setting;
 use crate::names::names_of;
 use crate::shape::{height_of, same_of};
 use crate::spelled::bytes_of;
-use crate::tokens::tokens_of;
+use crate::tokens::{template_of, tokens_of};
 use crate::tree::tree_of;
 use cov_base::Memory;
 use std::alloc::Global;
@@ -44,7 +46,7 @@ pub(crate) fn answered(alloc: Global, script: &str) -> Result<Result<String, u64
 }
 
 fn is_answer(line: &str) -> bool {
-    line.starts_with('>') || line.starts_with('!') || line.starts_with('=')
+    matches!(line.as_bytes().first(), Some(b'>' | b'!' | b'=' | b'+'))
 }
 
 /// Does what a line says, and writes its answer. False where the line isn't understood.
@@ -69,6 +71,7 @@ fn perform(
             setting.call(alloc, rest, page)?;
             Ok(true)
         }
+        "puts" => setting.call_putting(alloc, rest, page),
         _ => match answer(alloc, word, rest)? {
             Some(answer) => {
                 page.push_str("> ")?;
@@ -85,6 +88,7 @@ fn perform(
 fn answer(alloc: Global, word: &str, text: &str) -> Result<Option<String>, Memory> {
     match word {
         "tokens" => Ok(Some(tokens_of(alloc, bytes_of(alloc, text)?)?)),
+        "template" => Ok(Some(template_of(alloc, bytes_of(alloc, text)?)?)),
         "tree" => Ok(Some(tree_of(alloc, bytes_of(alloc, text)?)?)),
         "names" => Ok(Some(names_of(alloc, bytes_of(alloc, text)?)?)),
         "height" => Ok(Some(height_of(alloc, bytes_of(alloc, text)?)?)),

@@ -18,6 +18,22 @@ pub(crate) fn tokens_of(alloc: Global, bytes: Vec<u8>) -> Result<String, Memory>
     format!(in alloc; "{divided} | {other}")
 }
 
+/// The same of the token that continues a template at the text's start.
+pub(crate) fn template_of(alloc: Global, bytes: Vec<u8>) -> Result<String, Memory> {
+    let Ok(text) = Text::from_bytes(alloc, bytes, Limits::source()) else {
+        return String::from_str(alloc, "no text");
+    };
+    match Lexer::new(&text).next(Goal::Template) {
+        Ok(token) => {
+            let kind = letter(token.kind);
+            let start = token.start;
+            let end = token.end;
+            format!(in alloc; "{kind} {start}..{end}")
+        }
+        Err(LexFault { at, place: _ }) => format!(in alloc; "! {at}"),
+    }
+}
+
 fn tokens_by(alloc: Global, text: &Text, goal: Goal) -> Result<String, Memory> {
     let mut lexer = Lexer::new(text);
     let mut line = String::new(alloc);
@@ -38,6 +54,11 @@ fn tokens_by(alloc: Global, text: &Text, goal: Goal) -> Result<String, Memory> {
             ""
         };
         line.push_str(format!(in alloc; "{kind} {start}..{end}{before}")?.as_str())?;
+        if token.comments.start < token.comments.end {
+            let start = token.comments.start;
+            let end = token.comments.end;
+            line.push_str(format!(in alloc; "#{start}..{end}")?.as_str())?;
+        }
         if token.kind == TokenKind::End {
             break;
         }
@@ -51,7 +72,14 @@ fn letter(kind: TokenKind<'_>) -> &str {
     match kind {
         TokenKind::Word(_) => "W",
         TokenKind::Numeral(_) => "N",
+        TokenKind::EscapedWord(_) => "X",
+        TokenKind::BigInt(_) => "B",
         TokenKind::StringLiteral(_) => "S",
+        TokenKind::NoSubstitutionTemplate(_) => "T",
+        TokenKind::TemplateHead(_) => "TH",
+        TokenKind::TemplateMiddle(_) => "TM",
+        TokenKind::TemplateTail(_) => "TT",
+        TokenKind::RegularExpression(_) => "R",
         TokenKind::Punctuator(punctuator) => punctuator.spelling(),
         TokenKind::End => "E",
     }

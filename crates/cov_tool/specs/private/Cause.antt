@@ -1,5 +1,5 @@
 -- Why there is no answer, one step at a time, and what each step of the program gives.
-use Rattle.std.specs.Prelude.{◌≡◌, ℕ, ◌<◌, ◌≤◌, List, length, Option, None, Some, IfSome}
+use Rattle.std.specs.Prelude.{◌≡◌, ℕ, ◌<◌, ◌≤◌, List, length, Option, None, Some}
 use Rattle.std.specs.Str.{IsUtf8}
 use Rattle.std.specs.Str.Lossy.{utf8_valid_len}
 use Rattle.js_tree.specs.Plain.{File}
@@ -12,18 +12,14 @@ use Rattle.js_scopes.specs.Checks.{first_reserved}
 use Rattle.cov_base.specs.Store.{Held}
 use Rattle.cov_base.specs.Sink.{after_more, TakesPrefix}
 use Rattle.js_meaning.specs.declared.outcome.End.{End}
-use Rattle.cov_words.specs.Words.{Request}
-use Rattle.cov_tool.specs.Program.{answer_of, file_of}
+use Rattle.cov_words.specs.declared.command.SourceTask.{SourceTask}
+use Rattle.cov_tool.specs.Source.{Holds, answer_of}
 use Rattle.cov_tool.specs.Line as said
 use Rattle.cov_tool.specs.declared.answer.Answer.{Answer}
 use Rattle.cov_tool.specs.declared.fault.Fault.{Fault}
 use Rattle.cov_tool.specs.declared.fault.Fault.TheVariants as fault
 use Rattle.cov_tool.specs.declared.status.Status.{Status}
 use Rattle.cov_tool.specs.declared.status.Status.TheVariants as status
-
--- where the store tells what it holds, this is what it holds at the path
-abbrev pub Holds : Option Held → List ℕ → Option (List ℕ) → Type 0
-Holds told path found = IfSome told (λ at. at path ≡ found)
 
 -- the text has no tree but this one
 abbrev pub HasOnly : List ℕ → File → Type 0
@@ -55,13 +51,13 @@ IsReadingFault fault.ReadFailed told path = Unit {0}
 IsReadingFault fault.OutOfMemory told path = Unit {0}
 IsReadingFault other told path = ⊥
 
--- why the answer to a request isn't printed whole
-abbrev pub IsCause : Fault → Option Held → Request → Type 0
-IsCause fault.NoFile told request = Holds told (file_of request) None
-IsCause fault.ReadFailed told request = Unit {0}
-IsCause fault.WriteFailed told request = (bytes : List ℕ) × (tree : File) × Holds told (file_of request) (Some bytes) × Accepted bytes tree
-IsCause fault.OutOfMemory told request = Unit {0}
-IsCause why told request = (bytes : List ℕ) × Holds told (file_of request) (Some bytes) × IsBytesFault why bytes
+-- why the answer to a task on a file isn't printed whole
+abbrev pub IsCause : Fault → Option Held → List ℕ → Type 0
+IsCause fault.NoFile told path = Holds told path None
+IsCause fault.ReadFailed told path = Unit {0}
+IsCause fault.WriteFailed told path = (bytes : List ℕ) × (tree : File) × Holds told path (Some bytes) × Accepted bytes tree
+IsCause fault.OutOfMemory told path = Unit {0}
+IsCause why told path = (bytes : List ℕ) × Holds told path (Some bytes) × IsBytesFault why bytes
 
 -- what is said of a fault
 abbrev pub message_at : Fault → List ℕ → said.Message
@@ -90,16 +86,19 @@ status_of (said.NoFile path) = status.NoFile
 status_of (said.Uncaught shown) = status.Threw
 status_of (said.Range why) = status.Range
 status_of (said.Going turns) = status.Going
+status_of (said.BadInput path what) = status.BadInput
+status_of (said.CountTooLarge sum) = status.Limit
+status_of (said.Below shortfalls) = status.Below
 
--- the answer is that to a request whose file has these bytes
-abbrev pub IsAnswerTo : Request → List ℕ → Answer → Type 0
-IsAnswerTo request bytes answer = (tree : File) × Accepted bytes tree × HasOnly bytes tree × (answer ≡ answer_of request bytes tree)
+-- the answer is that to a task on a file of these bytes
+abbrev pub IsAnswerTo : SourceTask → List ℕ → List ℕ → Answer → Type 0
+IsAnswerTo task path bytes answer = (tree : File) × Accepted bytes tree × HasOnly bytes tree × (answer ≡ answer_of task path bytes tree)
 
--- nothing was printed, or a prefix of a request's output
-pub data PrintsAtMost (told : Option Held) (request : Request) (before after : Option (List ℕ)) : Type 0 where
-  nothing : after ≡ before → PrintsAtMost told request before after
-  some : {bytes : List ℕ} {tree : File} → Holds told (file_of request) (Some bytes) → Accepted bytes tree → HasOnly bytes tree →
-      TakesPrefix before after (answer_of request bytes tree).output → PrintsAtMost told request before after
+-- nothing was printed, or a prefix of the output of a task on a file
+pub data PrintsAtMost (told : Option Held) (task : SourceTask) (path : List ℕ) (before after : Option (List ℕ)) : Type 0 where
+  nothing : after ≡ before → PrintsAtMost told task path before after
+  some : {bytes : List ℕ} {tree : File} → Holds told path (Some bytes) → Accepted bytes tree → HasOnly bytes tree →
+      TakesPrefix before after (answer_of task path bytes tree).output → PrintsAtMost told task path before after
 
 -- with these faults nothing was printed
 abbrev pub IsBeforePrinting : Fault → Type 0
@@ -107,15 +106,15 @@ IsBeforePrinting fault.WriteFailed = ⊥
 IsBeforePrinting fault.OutOfMemory = ⊥
 IsBeforePrinting other = Unit {0}
 
--- a request's output was printed whole, and this is its end
-pub record IsAnswered (told : Option Held) (request : Request) (end : End) (before after : Option (List ℕ)) : Type 0 where
+-- the output was printed whole, and this is its end
+pub record IsAnswered (told : Option Held) (task : SourceTask) (path : List ℕ) (end : End) (before after : Option (List ℕ)) : Type 0 where
   pub bytes : List ℕ
   pub tree : File
-  pub held : Holds told (file_of request) (Some bytes)
+  pub held : Holds told path (Some bytes)
   pub accepted : Accepted bytes tree
   pub only : HasOnly bytes tree
-  pub ends : (answer_of request bytes tree).end ≡ end
-  pub printed : after ≡ after_more before (answer_of request bytes tree).output
+  pub ends : (answer_of task path bytes tree).end ≡ end
+  pub printed : after ≡ after_more before (answer_of task path bytes tree).output
 
 -- printing fails by the sink, or for want of memory
 abbrev pub IsPrintingFault : Fault → Type 0

@@ -13,7 +13,7 @@ use Rattle.js_text.specs.declared.punctuator.Punctuator.TheVariants as P
 use Rattle.js_text.specs.declared.word.ReservedWord.{ReservedWord}
 use Rattle.js_text.specs.declared.word.ReservedWord.TheVariants as reserved
 use Rattle.js_text.specs.Word.{reserved_word}
-use Rattle.js_text.specs.Grammar.{through, spelled, is_target}
+use Rattle.js_text.specs.Grammar.{through, spelled, is_plain_numeral, is_target}
 use Rattle.js_text.specs.Level.{level, binary_level, left_level, right_level, assignment, any, called}
 
 -- which statement's test is read
@@ -64,6 +64,10 @@ abbrev pub have_if : Option Expr → Loc → List Frame → Option Config
 have_if None l fs = None
 have_if (Some e) l fs = Some (at (Have e l) fs)
 
+-- the operand that a number is, if it is one of those that are read
+abbrev pub numeral_operand : List ℕ → Loc → Option Expr
+numeral_operand digits l = if is_plain_numeral digits then Some (NumericLiteral (Some l) digits) else None
+
 abbrev pub close_call : List Frame → Loc → Option Config
 close_call (InCall f lf xs ∷ fs) c = Some (at (Have (Call (Some (through lf c)) f xs) (through lf c)) fs)
 close_call fs c = None
@@ -75,10 +79,10 @@ want_punctuator p l fs = None
 
 abbrev pub want : Kind → Loc → List Frame → Option Config
 want (Word word) l fs = have_if (word_operand (reserved_word word) word l) l fs
-want (Numeral digits) l fs = Some (at (Have (NumericLiteral (Some l) digits) l) fs)
+want (Numeral digits) l fs = have_if (numeral_operand digits l) l fs
 want (T.StringLiteral bytes) l fs = Some (at (Have (StringLiteral (Some l) (spelled bytes)) l) fs)
 want (T.Punctuator p) l fs = want_punctuator p l fs
-want End l fs = None
+want other l fs = None
 
 -- ---- a statement begins, or a list of statements ends
 
@@ -105,10 +109,11 @@ begin_punctuator p l fs = None
 
 abbrev pub begin : Kind → Loc → List Frame → Option Config
 begin (Word word) l fs = begin_word (reserved_word word) word l fs
-begin (Numeral digits) l fs = Some (at (Have (NumericLiteral (Some l) digits) l) (InExpression ∷ fs))
+begin (Numeral digits) l fs = have_if (numeral_operand digits l) l (InExpression ∷ fs)
 begin (T.StringLiteral bytes) l fs = Some (at (Have (StringLiteral (Some l) (spelled bytes)) l) (InExpression ∷ fs))
 begin (T.Punctuator p) l fs = begin_punctuator p l fs
 begin End l fs = close_file fs
+begin other l fs = None
 
 -- ---- a statement stands there
 

@@ -1,5 +1,7 @@
 -- What one turn of the reader says.
-use Rattle.std.specs.Prelude.{◌≡◌, ◌<◌, ◌≤◌, ◌+◌, max, ℕ, Bool, true, false, List, Option, Some, None, Result, Ok, Err}
+use Rattle.std.specs.Prelude.{◌≡◌, ◌<◌, ◌≤◌, ◌+◌, ◌++◌, max, ℕ, Bool, true, false, List, Option, Some, None, Result, Ok, Err}
+use Rattle.std.specs.Str.{chars}
+use Rattle.js_tree.specs.declared.words.Comment.{Comment}
 use Rattle.js_tree.specs.Height.{height_expr, height_stmt, height_declarators}
 use Rattle.js_tree.specs.Tree.{plain_stmts}
 use Rattle.js_text.specs.Place.{Place}
@@ -15,7 +17,7 @@ use Rattle.js_parser.specs.declared.refused.Refused.{Refused}
 use Rattle.js_parser.specs.private.Floor.{up}
 use Rattle.js_parser.specs.private.Machine.{Frame, Mode, Want, Have, Begin, After, WantOpen, WantName, HaveName, Finished, Config, at, step}
 use Rattle.js_parser.specs.private.View.{mode}
-use Rattle.js_text.specs.Reads.{goal_of}
+use Rattle.js_text.specs.Reads.{goal_of, comments_of_token}
 
 -- how high the part is that stands there
 abbrev pub standing : Mode → ℕ
@@ -52,10 +54,11 @@ abbrev pub Goes : Progress → Type 0
 Goes (progress.Ended pieces) = Unit {0}
 Goes (progress.On m) = has_ended (mode m) ≡ false
 
--- a token was moved over and taken, within the limit
-abbrev pub TakesOne : Place → Place → List Frame → Mode → List Frame → Progress → ℕ → Type 0
-TakesOne here there fs m gs next limit =
+-- a token was moved over and taken, within the limit, and the comments before it were put after those that were kept
+abbrev pub TakesOne : List ℕ → Place → Place → List Frame → Mode → List Frame → Progress → List Comment → List Comment → ℕ → Type 0
+TakesOne text here there fs m gs next kept longer limit =
     (t : Token) × (next_token Div here ≡ Some (t, there)) × (step (at m fs) t ≡ Some (at (reached next) gs)) × (up fs (standing m) ≤ limit) × Goes next
+    × (longer ≡ kept ++ comments_of_token (chars text) t)
 
 -- no token is taken, at the place where the next one starts
 abbrev pub StopsAt : Refusal → Place → List Frame → Mode → ℕ → Type 0

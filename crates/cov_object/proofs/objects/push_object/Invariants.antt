@@ -1,5 +1,5 @@
 -- With the members that are left, the text is the whole.
-use Rattle.std.proofs.Common.{◌≡◌, ◌++◌, map, drop, nat_lt}
+use Rattle.std.proofs.Common.{◌≡◌, ◌++◌, drop, nat_lt}
 use Rattle.serde_json.specs.Data.{object}
 use Rattle.serde_json.specs.Written.{compact_text, members_text}
 use Rattle.cov_object.specs.private.Order.{members_of}

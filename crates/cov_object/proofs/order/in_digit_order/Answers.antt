@@ -1,4 +1,4 @@
-use Rattle.std.proofs.Common.{◌≡◌, ◌+◌, ◌∷◌, [], fold, drop, refl, sym, ap, ◌∙◌, rules, IfOk}
+use Rattle.std.proofs.Common.{◌≡◌, ◌+◌, ◌∷◌, fold, drop, refl, sym, ap, ◌∙◌, rules}
 use Rattle.std.proofs.lemmas.Result.{IfOk-weaker}
 use Rattle.std.proofs.lemmas.List.{at_drop_more, at_drop_all}
 use Rattle.cov_object.specs.private.Order.{put_in, in_key_order}

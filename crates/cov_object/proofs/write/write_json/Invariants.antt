@@ -1,4 +1,5 @@
 use Rattle.std.proofs.Common.{◌≡◌, ◌∷◌, false, map}
+use Rattle.cov_object.specs.private.Formed.{AreFormed}
 use Rattle.cov_object.proofs.WriteLemmas.{begun, is_later}
 use Rattle.cov_object.proofs.write.write_json.Given as goal
 
@@ -7,4 +8,5 @@ abbrev pub invariant-loop-file : goal.invariant-loop-file
 invariant-loop-file l = record {
   text : l.out.items ≡ 123 ∷ begun false (map (λ file. file.now) l.yielded);
   comma : l.later ≡ is_later false (map (λ file. file.now) l.yielded);
+  formed : AreFormed (map (λ file. file.now) l.yielded);
 }

@@ -2,8 +2,7 @@
 use Rattle.std.proofs.Common.{◌∙◌, ap, subst}
 use Rattle.js_tree.specs.Tree.{plain_file}
 use Rattle.js_scopes.specs.Accepted.{Accepted}
-use Rattle.cov_words.specs.Words.{request_of}
-use Rattle.cov_tool.specs.Program.{answer_of}
+use Rattle.cov_tool.specs.Source.{answer_of}
 use Rattle.cov_tool.specs.private.Cause.{HasOnly}
 use Rattle.cov_tool.proofs.answer.answer_to.Goals as goal
 
@@ -14,5 +13,5 @@ returns-clause-answer c =
       tree,
       subst (λ bytes. Accepted bytes tree) text c.in_ok-file.ensures.accepted,
       subst (λ bytes. HasOnly bytes tree) text c.in_ok-file.ensures.only,
-      c.in_ok-answer_for.ensures ∙ ap (λ bytes. answer_of (request_of c.args.command.now) bytes tree) text,
+      c.in_ok-answer_for.ensures ∙ ap (λ bytes. answer_of c.args.task c.args.path.now bytes tree) text,
     )

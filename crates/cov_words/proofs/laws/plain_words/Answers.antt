@@ -1,4 +1,4 @@
-use Rattle.cov_words.proofs.LawsLemmas.{maps_file, exec_file, exec_turns, no_turns, one_file, other_name}
+use Rattle.cov_words.proofs.LawsLemmas.{maps_file, exec_file, exec_turns, no_turns, one_file, merge_file, report_file, check_files, other_name}
 use Rattle.cov_words.proofs.laws.plain_words.Goals as goal
 
 pub returns-clause-maps_file : goal.returns-clause-maps_file
@@ -18,3 +18,12 @@ returns-clause-one_file c = one_file
 
 pub returns-clause-other_name : goal.returns-clause-other_name
 returns-clause-other_name c = other_name
+
+pub returns-clause-merge_file : goal.returns-clause-merge_file
+returns-clause-merge_file c = merge_file
+
+pub returns-clause-report_file : goal.returns-clause-report_file
+returns-clause-report_file c = report_file
+
+pub returns-clause-check_files : goal.returns-clause-check_files
+returns-clause-check_files c = check_files

@@ -10,6 +10,18 @@ pub returns-clause-exec : goal.returns-clause-exec
 unfolding clap_on_literals
 returns-clause-exec c = refl
 
+pub returns-clause-merges : goal.returns-clause-merges
+unfolding clap_on_literals
+returns-clause-merges c = refl
+
+pub returns-clause-reports : goal.returns-clause-reports
+unfolding clap_on_literals
+returns-clause-reports c = refl
+
+pub returns-clause-checks : goal.returns-clause-checks
+unfolding clap_on_literals
+returns-clause-checks c = refl
+
 pub returns-clause-no_reading : goal.returns-clause-no_reading
 unfolding clap_on_literals
 returns-clause-no_reading c = refl

@@ -1,0 +1,151 @@
+ghost use Rattle.std.specs.Prelude.{◌≡◌, ◌++◌, Some, codes};
+ghost use Rattle.std.specs.List.{list_any};
+ghost use Rattle.cov_object.specs.Read.{coverage_of};
+ghost use Rattle.cov_object.specs.declared.fault.CoverageFault.TheVariants as unread;
+ghost use Rattle.cov_inputs.specs.Inputs as spec;
+ghost use Rattle.cov_inputs.specs.declared.refusal.Refusal.TheVariants as why;
+ghost use Rattle.cov_inputs.specs.declared.refusal.What.TheVariants as what;
+ghost use Rattle.cov_inputs.specs.private.Answer.{Answers, IsRefusal};
+
+use crate::{InputFault, Refusal, What};
+use cov_merge::{MergeFault, merge};
+use cov_object::{CoverageFault, CoverageMap, read_json};
+use items::Text;
+use std::alloc::Global;
+
+/// That there is no file at a path.
+pub(crate) fn no_file(alloc: Global, path: &str) -> InputFault
+    ensures { IsRefusal result (why.NoFile path.now) }
+{
+    match Text::from_str(alloc, path) {
+        Ok(path) => InputFault::Refused(Refusal::NoFile { path }),
+        Err(_) => InputFault::Memory,
+    }
+}
+
+/// That the file at a path is too long.
+fn too_long(alloc: Global, path: &str) -> InputFault
+    ensures { IsRefusal result (why.TooLong path.now) }
+{
+    match Text::from_str(alloc, path) {
+        Ok(path) => InputFault::Refused(Refusal::TooLong { path }),
+        Err(_) => InputFault::Memory,
+    }
+}
+
+/// That the file at a path is no coverage file, by what is wrong with it.
+fn bad_input(alloc: Global, path: &str, what: What) -> InputFault
+    ensures { IsRefusal result (why.BadInput path.now what) }
+{
+    match Text::from_str(alloc, path) {
+        Ok(path) => InputFault::Refused(Refusal::BadInput { path, what }),
+        Err(_) => InputFault::Memory,
+    }
+}
+
+/// Why the file at a path is no coverage file.
+fn refused(alloc: Global, path: &str, fault: CoverageFault) -> InputFault
+    ensures refusal { IsRefusal result (spec.refusal_of path.now fault) }
+    ensures memory { fault ≡ unread.Memory → result ≡ InputFault.Memory }
+{
+    match fault {
+        CoverageFault::Memory => InputFault::Memory,
+        CoverageFault::TooLong => too_long(alloc, path),
+        CoverageFault::BadJson => bad_input(alloc, path, What::NotJson),
+        CoverageFault::BadMember { path: _, name } => {
+            bad_input(alloc, path, What::Member { name })
+        }
+        CoverageFault::Count { path: _, name } => bad_input(alloc, path, What::Count { name }),
+    }
+}
+
+/// The map that the bytes of the file at a path tell.
+fn map_of(alloc: Global, path: &str, bytes: &[u8]) -> Result<CoverageMap, InputFault>
+    ensures { Answers result (spec.or_refused path.now (coverage_of bytes.now)) }
+{
+    match read_json(alloc, bytes) {
+        Ok(map) => Ok(map),
+        Err(fault) => Err(refused(alloc, path, fault)),
+    }
+}
+
+/// Whether a file of a map has a source map.
+fn has_source_map(map: &CoverageMap) -> bool
+    ensures { result ≡ list_any spec.has_source_map map.now }
+{
+    let mut found = false;
+    for file in map.files() {
+        found = file.input_source_map.is_some() || found;
+    }
+    found
+}
+
+/// The map of the file at a path, where no file in it has a source map.
+fn without_maps(alloc: Global, path: &str, map: CoverageMap) -> Result<CoverageMap, InputFault>
+    ensures { Answers result (spec.without_maps path.now map) }
+{
+    if has_source_map(&map) {
+        Err(source_map(alloc, path))
+    } else {
+        Ok(map)
+    }
+}
+
+/// That the file at a path has a source map.
+fn source_map(alloc: Global, path: &str) -> InputFault
+    ensures { IsRefusal result (why.BadInput path.now (what.Member (codes "inputSourceMap"))) }
+{
+    match Text::from_str(alloc, "inputSourceMap") {
+        Ok(name) => bad_input(alloc, path, What::Member { name }),
+        Err(_) => InputFault::Memory,
+    }
+}
+
+/// Both maps, merged.
+fn merged(alloc: Global, a: &CoverageMap, b: &CoverageMap) -> Result<CoverageMap, InputFault>
+    ensures { Answers result (spec.merged_or_refused (a.now ++ b.now)) }
+{
+    match merge(alloc, a, b) {
+        Ok(map) => Ok(map),
+        Err(MergeFault::CountTooLarge { key: _, sum }) => {
+            Err(InputFault::Refused(Refusal::CountTooLarge { sum }))
+        }
+        Err(MergeFault::Memory) => Err(InputFault::Memory),
+    }
+}
+
+/// A map whose equal keys are summed.
+fn summed(alloc: Global, map: CoverageMap) -> Result<CoverageMap, InputFault>
+    ensures { Answers result (spec.merged_or_refused map) }
+{
+    merged(alloc, &map, &CoverageMap::new(alloc))
+}
+
+/// The sums with this map more.
+fn with_map(alloc: Global, sums: &CoverageMap, map: CoverageMap) -> Result<CoverageMap, InputFault>
+    ensures { Answers result (spec.with_files sums.now map) }
+{
+    let own = summed(alloc, map)?;
+    merged(alloc, sums, &own)
+}
+
+/// The map that the bytes of the file at a path tell, which has no source maps.
+fn read_at(alloc: Global, path: &str, bytes: &[u8]) -> Result<CoverageMap, InputFault>
+    ensures { Answers result (spec.read_at path.now (Some bytes.now)) }
+{
+    let map = map_of(alloc, path, bytes)?;
+    without_maps(alloc, path, map)
+}
+
+/// The sums with the file at a path more, which has these bytes.
+pub(crate) fn with_bytes(
+    alloc: Global,
+    sums: &CoverageMap,
+    path: &str,
+    bytes: &[u8],
+) -> Result<CoverageMap, InputFault>
+    ensures { Answers result (spec.with_input sums.now (record { path = path.now; found = Some bytes.now })) }
+{
+    let map = read_at(alloc, path, bytes)?;
+    with_map(alloc, sums, map)
+}

@@ -1,0 +1,25 @@
+use items::Text;
+
+/// What is wrong with a coverage file.
+#[derive(Debug, Drop)]
+pub enum What {
+    /// It is no JSON.
+    NotJson,
+    /// This member is missing or isn't of its form.
+    Member { name: Text },
+    /// This count isn't a whole number from 0 to 2^53 - 1.
+    Count { name: Text },
+}
+
+/// Why coverage files have no sums.
+#[derive(Debug, Drop)]
+pub enum Refusal {
+    /// There is no file at this path.
+    NoFile { path: Text },
+    /// The file at this path is longer than 16 MiB.
+    TooLong { path: Text },
+    /// The file at this path is no coverage file.
+    BadInput { path: Text, what: What },
+    /// The counts of a key come to 2^53 or more: this is the running sum where it first does.
+    CountTooLarge { sum: u64 },
+}

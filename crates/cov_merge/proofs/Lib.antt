@@ -1,0 +1,4 @@
+pub mod Groups
+pub mod KindsLemmas
+pub mod LawsLemmas
+pub mod Places

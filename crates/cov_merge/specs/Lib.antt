@@ -1,0 +1,10 @@
+pub mod Answer
+pub mod Entries
+pub mod Files
+pub mod Kind
+pub mod Kinds
+pub mod Laws
+pub mod Maps
+pub mod private
+pub mod Same
+pub mod Sums

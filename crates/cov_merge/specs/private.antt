@@ -1,0 +1,4 @@
+pub mod Groups
+pub mod Order
+pub mod Orders
+pub mod Table

@@ -1,0 +1,58 @@
+use crate::counted::Counted;
+use crate::key::Counter;
+use crate::order::compare_locations;
+use cov_object::{Count, FileCoverage, FunctionCoverage};
+use items::{Items, Memory, Text};
+use std::alloc::Global;
+use std::cmp::Ordering;
+
+impl Counted for FunctionCoverage {
+    ghost use Rattle.cov_merge.specs.Kinds.{functions};
+    ghost use Rattle.cov_merge.specs.private.Order.{function_cmp};
+    ghost use Rattle.cov_merge.specs.private.Orders.{function_total, function_tells};
+
+    ghost kind = { functions };
+
+    ghost order = { function_cmp };
+
+    ghost total = { function_total };
+
+    ghost tells = { function_tells };
+
+    fn entries(file: &FileCoverage) -> &[(u64, FunctionCoverage)] {
+        file.functions.as_slice()
+    }
+
+    fn compare(&self, other: &FunctionCoverage) -> Ordering {
+        compare_locations(self.declaration, other.declaration).then(compare_locations(
+            self.location,
+            other.location,
+        ))
+    }
+
+    fn counts(&self, alloc: Global) -> Result<Items<Count>, Memory> {
+        let mut counts = Items::new(alloc);
+        counts.push(self.count)?;
+        Ok(counts)
+    }
+
+    fn with_counts(&self, alloc: Global, counts: &[Count]) -> Result<FunctionCoverage, Memory> {
+        let count = match counts {
+            [count, ..] => *count,
+            [] => self.count,
+        };
+        Ok(FunctionCoverage {
+            name: Text::from_str(alloc, self.name.as_str())?,
+            declaration: self.declaration,
+            location: self.location,
+            count,
+        })
+    }
+
+    fn counter(&self, _alloc: Global, _place: usize) -> Result<Counter, Memory> {
+        Ok(Counter::Function {
+            declaration: self.declaration,
+            location: self.location,
+        })
+    }
+}

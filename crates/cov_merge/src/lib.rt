@@ -1,0 +1,25 @@
+//! Coverage maps, merged: what stands under one key in several maps is summed.
+#![tactic(auto)]
+
+mod branch;
+mod by_key;
+mod counted;
+mod entries;
+mod fault;
+mod file;
+mod function;
+mod key;
+mod laws;
+mod maps;
+mod order;
+mod statement;
+mod sums;
+mod table;
+mod tally;
+#[cfg(test)]
+mod tests;
+
+pub use fault::MergeFault;
+pub use key::{Counter, Key};
+pub use laws::{any_order, each_key};
+pub use maps::{merge, merge_all};

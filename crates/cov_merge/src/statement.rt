@@ -1,0 +1,52 @@
+use crate::counted::Counted;
+use crate::key::Counter;
+use crate::order::compare_locations;
+use cov_object::{Count, FileCoverage, StatementCoverage};
+use items::{Items, Memory};
+use std::alloc::Global;
+use std::cmp::Ordering;
+
+impl Counted for StatementCoverage {
+    ghost use Rattle.cov_merge.specs.Kinds.{statements};
+    ghost use Rattle.cov_merge.specs.private.Order.{statement_cmp};
+    ghost use Rattle.cov_merge.specs.private.Orders.{statement_total, statement_tells};
+
+    ghost kind = { statements };
+
+    ghost order = { statement_cmp };
+
+    ghost total = { statement_total };
+
+    ghost tells = { statement_tells };
+
+    fn entries(file: &FileCoverage) -> &[(u64, StatementCoverage)] {
+        file.statements.as_slice()
+    }
+
+    fn compare(&self, other: &StatementCoverage) -> Ordering {
+        compare_locations(self.location, other.location)
+    }
+
+    fn counts(&self, alloc: Global) -> Result<Items<Count>, Memory> {
+        let mut counts = Items::new(alloc);
+        counts.push(self.count)?;
+        Ok(counts)
+    }
+
+    fn with_counts(&self, _alloc: Global, counts: &[Count]) -> Result<StatementCoverage, Memory> {
+        let count = match counts {
+            [count, ..] => *count,
+            [] => self.count,
+        };
+        Ok(StatementCoverage {
+            location: self.location,
+            count,
+        })
+    }
+
+    fn counter(&self, _alloc: Global, _place: usize) -> Result<Counter, Memory> {
+        Ok(Counter::Statement {
+            location: self.location,
+        })
+    }
+}

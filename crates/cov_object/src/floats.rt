@@ -1,0 +1,42 @@
+ghost use Rattle.std.specs.Prelude.{◌≡◌};
+ghost use Rattle.serde_json.specs.View.{view, items_view, members_view};
+ghost use Rattle.serde_json.specs.Written as written;
+
+use serde_json::{Map, Value};
+
+// Whether some number inside a value is no integer. A value that was read is at most 127 deep.
+#[cycle(has_float)]
+pub(crate) fn has_float(value: &Value) -> bool
+    ensures { result ≡ written.has_float (view value.now) }
+{
+    match value {
+        Value::Null | Value::Bool(_) | Value::String(_) => false,
+        Value::Number(number) => number.is_f64(),
+        Value::Array(items) => items_have_float(items.as_slice()),
+        Value::Object(members) => members_have_float(members),
+    }
+}
+
+#[cycle(has_float)]
+fn items_have_float(items: &[Value]) -> bool
+    ensures { result ≡ written.items_have_float (items_view items.now) }
+{
+    for item in items {
+        if has_float(item) {
+            return true;
+        }
+    }
+    false
+}
+
+#[cycle(has_float)]
+fn members_have_float(members: &Map<String, Value>) -> bool
+    ensures { result ≡ written.members_have_float (members_view members.now.entries) }
+{
+    for (key, member) in members.iter() {
+        if has_float(member) {
+            return true;
+        }
+    }
+    false
+}

@@ -1,0 +1,50 @@
+use cov_summary::Thresholds;
+use items::{Items, Text};
+
+/// What the words of the command line ask for.
+#[derive(Debug, Drop)]
+pub enum Command {
+    /// What is to be done with the source file at this source path.
+    OnSource {
+        task: SourceTask,
+        file: Text,
+    },
+    /// What is to be done with the coverage files at these paths, in the order of the words.
+    OnCoverage {
+        task: CoverageTask,
+        files: Items<Text>,
+    },
+}
+
+/// What is done with a source file.
+#[derive(Clone, Copy, Debug, PartialEq, Eq)]
+pub enum SourceTask {
+    /// Its map is written.
+    Maps,
+    /// It is run, for so many turns at most.
+    Exec { turns: u64 },
+}
+
+/// What is done with coverage files, once they are merged.
+#[derive(Debug, Drop)]
+pub enum CoverageTask {
+    /// The JSON of all is put at this path, which isn't empty.
+    Merge { out: Text },
+    /// A report is written.
+    Report { reporter: Reporter },
+    /// The totals are held against thresholds.
+    Check { thresholds: Thresholds },
+}
+
+/// The reports that there are.
+#[derive(Clone, Copy, Debug, PartialEq, Eq)]
+pub enum Reporter {
+    /// A table for people.
+    Text,
+    /// All of the coverage data.
+    Json,
+    /// The totals of each file, as JSON.
+    JsonSummary,
+    /// For the tools that read LCOV.
+    Lcov,
+}
