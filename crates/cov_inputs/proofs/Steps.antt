@@ -1,5 +1,5 @@
 -- What one step answers, and what that makes of the files so far.
-use Rattle.std.proofs.Common.{◌≡◌, ◌≢◌, ℕ, List, [], ◌∷◌, ◌++◌, map, Bool, ◌||◌, true, false, cond, Option, Some, None, Bor, take, drop, refl, sym, ap, ◌∙◌, subst, append_assoc, append-nil}
+use Rattle.std.proofs.Common.{◌≡◌, ◌≢◌, ℕ, List, [], ◌∷◌, ◌++◌, map, Bool, ◌||◌, true, false, Option, Some, None, Bor, refl, sym, ap, ◌∙◌, subst}
 use Rattle.std.specs.Prelude.{Result, Ok, Err, IfSome}
 use Rattle.std.specs.List.{list_any}
 use Rattle.std.proofs.lemmas.List.{map-append}
@@ -9,8 +9,10 @@ use Rattle.cov_base.specs.Store.{Held, ReadsHeld}
 use Rattle.cov_object.specs.declared.file.FileCoverage.{FileCoverage}
 use Rattle.cov_object.specs.declared.fault.CoverageFault.{CoverageFault}
 use Rattle.cov_object.specs.declared.fault.CoverageFault.TheVariants as unread
-use Rattle.cov_inputs.specs.Inputs.{Input, Sums, AreRead, AreRefused, FailsAt, HaveSums, IsCause, gathered, or_refused, read_from, refusal_of, then_by, with_input}
-use Rattle.cov_inputs.specs.declared.refusal.Refusal.{Refusal}
+use Rattle.cov_merge.specs.declared.fault.MergeFault.{MergeFault}
+use Rattle.cov_merge.specs.Maps.{merged}
+use Rattle.cov_merge.specs.Laws.{AreMergedOnce}
+use Rattle.cov_inputs.specs.Inputs.{Input, Sums, AreRead, HaveSums, IsCause, gathered, merged_or_refused, or_refused, or_too_large, read_from, refusal_of, then_by, with_files, with_input}
 use Rattle.cov_inputs.specs.declared.fault.InputFault.{InputFault}
 use Rattle.cov_inputs.specs.declared.fault.InputFault.TheVariants.{Refused, ReadFailed, Memory}
 use Rattle.cov_inputs.specs.private.Answer.{Answers, AnswersAt, Holds, IsRefusal}
@@ -63,6 +65,18 @@ answers_at held sums path found holds (Ok files) is = (found, holds, is)
 answers_at held sums path found holds (Err (Refused why)) is = (found, holds, is)
 answers_at held sums path found holds (Err (ReadFailed at)) is = absurd is
 answers_at held sums path found holds (Err Memory) is = tt
+
+-- sums that aren't too large are those of the definition
+as_merged : (answer : Result (List FileCoverage) MergeFault) (own : List FileCoverage) → or_too_large answer ≡ Ok own → answer ≡ Ok own
+as_merged (Ok files) own e = let same : files ≡ own = cc in ap Ok same
+as_merged (Err why) own e = cc
+
+-- the sums of a first file are its own
+pub first_sums : AreMergedOnce → (sums files own : List FileCoverage) → sums ≡ [] → merged_or_refused files ≡ Ok own → with_files sums files ≡ Ok own
+first_sums once sums files own none is =
+    ap (then_by (λ some. merged_or_refused (sums ++ some))) is
+    ∙ ap (λ before. merged_or_refused (before ++ own)) none
+    ∙ ap or_too_large (once files own (as_merged (merged files) own is))
 
 -- ---- the files so far
 

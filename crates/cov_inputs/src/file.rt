@@ -1,4 +1,4 @@
-ghost use Rattle.std.specs.Prelude.{◌≡◌, ◌++◌, Some, codes};
+ghost use Rattle.std.specs.Prelude.{◌≡◌, ◌↔◌, [], ◌++◌, IsTrue, Some, codes};
 ghost use Rattle.std.specs.List.{list_any};
 ghost use Rattle.cov_object.specs.Read.{coverage_of};
 ghost use Rattle.cov_object.specs.declared.fault.CoverageFault.TheVariants as unread;
@@ -8,7 +8,7 @@ ghost use Rattle.cov_inputs.specs.declared.refusal.What.TheVariants as what;
 ghost use Rattle.cov_inputs.specs.private.Answer.{Answers, IsRefusal};
 
 use crate::{InputFault, Refusal, What};
-use cov_merge::{MergeFault, merge};
+use cov_merge::{MergeFault, each_path, merge};
 use cov_object::{CoverageFault, CoverageMap, read_json};
 use items::Text;
 use std::alloc::Global;
@@ -121,12 +121,24 @@ fn summed(alloc: Global, map: CoverageMap) -> Result<CoverageMap, InputFault>
     merged(alloc, &map, &CoverageMap::new(alloc))
 }
 
-/// The sums with this map more.
+/// Whether a map has no files.
+fn is_empty(map: &CoverageMap) -> bool
+    ensures { IsTrue result ↔ (map.now ≡ []) }
+{
+    map.files().next().is_none()
+}
+
+/// The sums with this map more. Those of a first map are its own: they are merged already.
 fn with_map(alloc: Global, sums: &CoverageMap, map: CoverageMap) -> Result<CoverageMap, InputFault>
     ensures { Answers result (spec.with_files sums.now map) }
 {
+    each_path();
     let own = summed(alloc, map)?;
-    merged(alloc, sums, &own)
+    if is_empty(sums) {
+        Ok(own)
+    } else {
+        merged(alloc, sums, &own)
+    }
 }
 
 /// The map that the bytes of the file at a path tell, which has no source maps.

@@ -1,6 +1,6 @@
 -- The laws of merging, for statements, functions and branches.
-use Rattle.std.proofs.Common.{◌≡◌, ℕ, ◌==◌, ◌&&◌, suc, Bool, true, false, List, [], ◌∷◌, ◌++◌, length, map, Option, Result, Ok, Err, nat_eq, refl, sym, ap, ◌∙◌, arith}
-use Rattle.std.specs.List.{zip, enumerate_from}
+use Rattle.std.proofs.Common.{◌≡◌, ℕ, ◌&&◌, suc, Bool, true, false, List, [], ◌∷◌, length, map, Result, Ok, Err, nat_eq, refl, sym, ap, arith}
+use Rattle.std.specs.List.{enumerate_from}
 use Rattle.std.specs.Cmp.{IsEquivalence, and_equiv, on_equiv, nat_eq_equiv}
 use Rattle.std.specs.Cmp.Lexicographic.{pointwise, options_equiv, lists_equiv}
 use Rattle.cov_object.specs.declared.location.Position.{Position}
@@ -18,6 +18,7 @@ use Rattle.cov_merge.specs.Kinds.{statements, functions, branches, statement_wit
 use Rattle.cov_merge.specs.Entries.{merged_entries}
 use Rattle.cov_merge.specs.Files.{merged_file, hash_of, source_map_of}
 use Rattle.cov_merge.specs.Laws.{IsGroupingFree, IsLeftToRight}
+use Rattle.cov_merge.proofs.SumsLemmas.{counts_of}
 use Rattle.cov_merge.proofs.LawsLemmas.{Sound, grouped_at, merged_again, suc-same}
 
 position_equiv : IsEquivalence same_position
@@ -89,9 +90,6 @@ functions_sound = record {
 abbrev same_path : PathCoverage → PathCoverage → Bool
 same_path p q = same_location p.location q.location
 
-abbrev counts_of : List PathCoverage → List ℕ
-counts_of paths = map (λ path. path.count) paths
-
 paths-given : (paths : List PathCoverage) (counts : List ℕ) → length counts ≡ length (counts_of paths) → counts_of (paths_with paths counts) ≡ counts
 paths-given [] [] e = refl
 paths-given [] (count ∷ counts) e = absurd (omega arith)
@@ -147,21 +145,7 @@ branches_sound = record {
 
 -- ---- the parts of a file
 
-record Parts (path : List ℕ) (files : List FileCoverage) (file : FileCoverage) : Type 0 where
-  own_statements : List StatementCoverage
-  statements_merged : merged_entries statements path files ≡ Ok own_statements
-  statements_in : file.statements ≡ enumerate_from 0 own_statements
-  own_functions : List FunctionCoverage
-  functions_merged : merged_entries functions path files ≡ Ok own_functions
-  functions_in : file.functions ≡ enumerate_from 0 own_functions
-  own_branches : List BranchCoverage
-  branches_merged : merged_entries branches path files ≡ Ok own_branches
-  branches_in : file.branches ≡ enumerate_from 0 own_branches
-
-abbrev Answer : Type 0 → Type 0
-Answer X = Result X MergeFault
-
-abbrev made_file : List ℕ → List FileCoverage → List StatementCoverage → List FunctionCoverage → List BranchCoverage → FileCoverage
+abbrev pub made_file : List ℕ → List FileCoverage → List StatementCoverage → List FunctionCoverage → List BranchCoverage → FileCoverage
 made_file path files s f b = record {
   path = path;
   hash = hash_of files;
@@ -171,7 +155,22 @@ made_file path files s f b = record {
   branches = enumerate_from 0 b;
 }
 
-abbrev good : FileCoverage → Answer FileCoverage
+pub record Parts (path : List ℕ) (files : List FileCoverage) (file : FileCoverage) : Type 0 where
+  pub own_statements : List StatementCoverage
+  pub statements_merged : merged_entries statements path files ≡ Ok own_statements
+  statements_in : file.statements ≡ enumerate_from 0 own_statements
+  pub own_functions : List FunctionCoverage
+  pub functions_merged : merged_entries functions path files ≡ Ok own_functions
+  functions_in : file.functions ≡ enumerate_from 0 own_functions
+  pub own_branches : List BranchCoverage
+  pub branches_merged : merged_entries branches path files ≡ Ok own_branches
+  branches_in : file.branches ≡ enumerate_from 0 own_branches
+  pub is : made_file path files own_statements own_functions own_branches ≡ file
+
+abbrev pub Answer : Type 0 → Type 0
+Answer X = Result X MergeFault
+
+abbrev pub good : FileCoverage → Answer FileCoverage
 good file = Ok file
 
 bad : {G : Type 0} (fault : MergeFault) (file : FileCoverage) → Err fault ≡ good file → G
@@ -198,9 +197,10 @@ parts-by path files file (Ok s) (Ok f) (Ok b) hs hf hb ok =
       own_branches = b;
       branches_merged = hb;
       branches_in = ap (λ (x : FileCoverage). x.branches) (sym is);
+      is = is;
     }
 
-parts : (path : List ℕ) (files : List FileCoverage) (file : FileCoverage) → merged_file path files ≡ Ok file → Parts path files file
+pub parts : (path : List ℕ) (files : List FileCoverage) (file : FileCoverage) → merged_file path files ≡ Ok file → Parts path files file
 parts path files file ok = parts-by path files file (merged_entries statements path files) (merged_entries functions path files) (merged_entries branches path files) refl refl refl ok
 
 pub statements_grouped : IsGroupingFree statements

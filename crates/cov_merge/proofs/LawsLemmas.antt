@@ -1,6 +1,6 @@
 -- The laws of merging, for a kind whose keys are compared by an equivalence.
 use Rattle.std.proofs.Common.{◌≡◌, ℕ, zero, suc, ◌+◌, ◌<◌, ◌≤◌, Bool, true, false, ◌||◌, cond, nat_lt, List, [], ◌∷◌, ◌++◌, length, map, fold, Option, Some, None, Result, Ok, Err, refl, sym, ap, ◌∙◌, subst, arith, append-nil, append_assoc, add_assoc, add_comm}
-use Rattle.std.specs.List.{zip, list_any, flat_map, enumerate_from, IsDistinct, AllByRecursion}
+use Rattle.std.specs.List.{list_any, enumerate_from, IsDistinct, AllByRecursion}
 use Rattle.std.specs.Cmp.{IsEquivalence}
 use Rattle.std.proofs.lemmas.Bool.{ltb-true, ltb-false}
 use Rattle.cov_object.specs.declared.file.FileCoverage.{FileCoverage}
@@ -10,14 +10,11 @@ use Rattle.cov_merge.specs.declared.fault.MergeFault.TheVariants.{CountTooLarge}
 use Rattle.cov_merge.specs.Answer.{and_then}
 use Rattle.cov_merge.specs.Kind.{Kind}
 use Rattle.cov_merge.specs.Sums.{limit, running, plus, added, summed}
+use Rattle.cov_merge.specs.private.Sums.{AreCounts}
 use Rattle.cov_merge.specs.Entries.{too_large, total_or, total, totals, entries_of, merged_entries}
 use Rattle.cov_merge.specs.Laws.{count_at, count_of, has_key, IsSummed, HasTheirKeys, HasEachOnce, IsOrderFree, SumsAlone}
 
 -- ---- sums that stay below the limit are exact
-
-abbrev AllBelow : List ℕ → Type 0
-AllBelow [] = Unit {0}
-AllBelow (sum ∷ sums) = (sum < limit) × AllBelow sums
 
 running-by : (b : Bool) (sum count : ℕ) → nat_lt sum limit ≡ b → running sum count < limit → (running sum count ≡ sum + count) × (sum < limit)
 running-by true sum count e below = (ap (λ b. cond b (sum + count) sum) e, ltb-true sum limit e)
@@ -37,12 +34,12 @@ length-plus [] counts e = refl
 length-plus (sum ∷ sums) [] e = absurd (omega arith)
 length-plus (sum ∷ sums) (count ∷ counts) e = ap suc (length-plus sums counts (suc-same _ _ e))
 
-plus-below : (sums counts : List ℕ) → length sums ≡ length counts → AllBelow (plus sums counts) → AllBelow sums
+plus-below : (sums counts : List ℕ) → length sums ≡ length counts → AreCounts (plus sums counts) → AreCounts sums
 plus-below [] counts e below = tt
 plus-below (sum ∷ sums) [] e below = absurd (omega arith)
 plus-below (sum ∷ sums) (count ∷ counts) e below = ((running-exact sum count below.0).1, plus-below sums counts (suc-same _ _ e) below.1)
 
-plus-count : (place : ℕ) (sums counts : List ℕ) → length sums ≡ length counts → AllBelow (plus sums counts) → count_at place (plus sums counts) ≡ count_at place sums + count_at place counts
+plus-count : (place : ℕ) (sums counts : List ℕ) → length sums ≡ length counts → AreCounts (plus sums counts) → count_at place (plus sums counts) ≡ count_at place sums + count_at place counts
 plus-count place [] [] e below = refl
 plus-count place [] (count ∷ counts) e below = absurd (omega arith)
 plus-count place (sum ∷ sums) [] e below = absurd (omega arith)
@@ -57,7 +54,7 @@ none-by true place sum sums e none = (ltb-true sum limit e, ap (λ b. cond b (to
 none-by false place sum sums e none =
     some-none (place, sum) (ap (λ b. cond b (too_large (place + 1) sums) (Some (place, sum))) (sym e) ∙ none)
 
-none-below : (place : ℕ) (sums : List ℕ) → too_large place sums ≡ None → AllBelow sums
+pub none-below : (place : ℕ) (sums : List ℕ) → too_large place sums ≡ None → AreCounts sums
 none-below place [] none = tt
 none-below place (sum ∷ sums) none =
     let parts = none-by (nat_lt sum limit) place sum sums refl none in
@@ -147,7 +144,7 @@ module _ {T : Type 0} (kind : Kind T) where
 
   abbrev AreBelow : Tallies → Type 0
   AreBelow [] = Unit {0}
-  AreBelow (t ∷ ts) = AllBelow t.1 × AreBelow ts
+  AreBelow (t ∷ ts) = AreCounts t.1 × AreBelow ts
 
   -- the sum at a key
   abbrev sum_of : T → ℕ → Tallies → ℕ

@@ -1,4 +1,6 @@
 pub mod Groups
 pub mod KindsLemmas
 pub mod LawsLemmas
+pub mod MapsLemmas
 pub mod Places
+pub mod SumsLemmas

@@ -1,8 +1,9 @@
 -- The place of an entry's key, and what adding does there.
-use Rattle.std.proofs.Common.{◌≡◌, ℕ, ◌+◌, ◌<◌, Bool, true, false, cond, List, [], ◌∷◌, ◌++◌, Option, Some, None, length, set, get_or, zero, suc, refl, sym, ap, ◌∙◌, arith, add-one, zero-add}
+use Rattle.std.proofs.Common.{◌≡◌, ℕ, ◌+◌, ◌<◌, Bool, true, false, cond, List, [], ◌∷◌, ◌++◌, Option, Some, None, length, set, get_or, zero, suc, Vec, refl, sym, ap, ◌∙◌, arith, add-one}
 use Rattle.std.specs.Option.{option_map}
 use Rattle.std.specs.Ordering.{is_eq, eq_by_cmp}
 use Rattle.std.specs.declared.cmp.Ordering.{Ordering}
+use Rattle.std.specs.declared.alloc.Global.{Global}
 use Rattle.std.specs.Cmp.{IsTotalOrder, IsEquivalence, eq_by_cmp_equiv}
 use Rattle.cov_merge.specs.Kind.{Kind}
 use Rattle.cov_merge.specs.Sums.{added, plus}
@@ -114,13 +115,13 @@ module _ {T : Type 0} (kind : Kind T) (entry : T) where
 
 -- ---- in the table
 
-pub set-added_at : {T : Type 0} (items : List (Tally T)) (place : ℕ) (old : Tally T) (sums counts : List ℕ) → old ≡ get_or items place old → sums ≡ plus old.sums counts →
+pub set-added_at : {T : Type 0} (items : List (Tally T)) (place : ℕ) (old : Tally T) (sums : Vec ℕ Global) (counts : List ℕ) → old ≡ get_or items place old → sums.items ≡ plus old.sums.items counts →
     tallies_of (set items place (record { entry = old.entry; sums = sums })) ≡ added_at place counts (tallies_of items)
 set-added_at [] place old sums counts at is = refl
 set-added_at (x ∷ xs) zero old sums counts at is =
     ap (λ (new : List ℕ). (old.entry.now, new) ∷ tallies_of xs) is
-    ∙ ap (λ (tally : Tally _). (tally.entry.now, plus tally.sums counts) ∷ tallies_of xs) at
-set-added_at (x ∷ xs) (suc place) old sums counts at is = ap (λ rest. (x.entry.now, x.sums) ∷ rest) (set-added_at xs place old sums counts at is)
+    ∙ ap (λ (tally : Tally _). (tally.entry.now, plus tally.sums.items counts) ∷ tallies_of xs) at
+set-added_at (x ∷ xs) (suc place) old sums counts at is = ap (λ rest. (x.entry.now, x.sums.items) ∷ rest) (set-added_at xs place old sums counts at is)
 
 module _ {T : Type 0} (kind : Kind T) (order : T → T → Ordering) (total : IsTotalOrder order) (tells : (a b : T) → eq_by_cmp order a b ≡ kind.same a b) where
   same-equiv : IsEquivalence (eq_by_cmp order)
@@ -145,6 +146,6 @@ length-tallies_of [] = refl
 length-tallies_of (x ∷ xs) = ap suc (length-tallies_of xs)
 
 -- one more tally
-pub tallies_of-more : {T : Type 0} (items : List (Tally T)) (tally : Tally T) → tallies_of (items ++ tally ∷ []) ≡ tallies_of items ++ (tally.entry.now, tally.sums) ∷ []
+pub tallies_of-more : {T : Type 0} (items : List (Tally T)) (tally : Tally T) → tallies_of (items ++ tally ∷ []) ≡ tallies_of items ++ (tally.entry.now, tally.sums.items) ∷ []
 tallies_of-more [] tally = refl
-tallies_of-more (x ∷ xs) tally = ap (λ rest. (x.entry.now, x.sums) ∷ rest) (tallies_of-more xs tally)
+tallies_of-more (x ∷ xs) tally = ap (λ rest. (x.entry.now, x.sums.items) ∷ rest) (tallies_of-more xs tally)

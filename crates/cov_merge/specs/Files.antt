@@ -1,5 +1,5 @@
 -- The files at one path, merged.
-use Rattle.std.specs.Prelude.{ℕ, Bool, cond, List, [], ◌∷◌, Option, Some, None, Result, Ok}
+use Rattle.std.specs.Prelude.{ℕ, cond, List, [], ◌∷◌, Option, Some, None, Result, Ok}
 use Rattle.std.specs.Option.{option_eq}
 use Rattle.std.specs.List.{list_all, enumerate_from}
 use Rattle.cov_object.specs.declared.file.FileCoverage.{FileCoverage}

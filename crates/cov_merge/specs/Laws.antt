@@ -1,11 +1,14 @@
--- What a reader expects of merging, as laws on the definitions: each holds of statements, of functions and of branches.
-use Rattle.std.specs.Prelude.{◌≡◌, ℕ, zero, suc, ◌+◌, Bool, cond, List, [], ◌∷◌, ◌++◌, map, Result, Ok}
-use Rattle.std.specs.List.{list_any, IsDistinct}
+-- What a reader expects of merging, as laws on the definitions: of statements, of functions and of branches, and of whole maps.
+use Rattle.std.specs.Prelude.{◌≡◌, ℕ, zero, suc, ◌+◌, Bool, cond, List, [], ◌∷◌, ◌++◌, map, Option, Some, None, Ok}
+use Rattle.std.specs.List.{list_any, filter, IsDistinct}
 use Rattle.cov_object.specs.declared.file.FileCoverage.{FileCoverage}
+use Rattle.cov_object.specs.Files.{found}
 use Rattle.cov_merge.specs.Kind.{Kind}
+use Rattle.cov_merge.specs.Same.{same_text}
 use Rattle.cov_merge.specs.Kinds.{statements, functions, branches}
 use Rattle.cov_merge.specs.Entries.{entries_of, merged_entries}
 use Rattle.cov_merge.specs.Files.{merged_file}
+use Rattle.cov_merge.specs.Maps.{merged}
 
 -- the count at a place, from 0 on; 0 past the end
 abbrev pub count_at : ℕ → List ℕ → ℕ
@@ -83,3 +86,23 @@ AreLeftToRight = IsLeftToRight statements × IsLeftToRight functions × IsLeftTo
 
 abbrev pub SumAlone : Type 0
 SumAlone = SumsAlone statements × SumsAlone functions × SumsAlone branches
+
+-- ---- for whole maps
+
+-- those of the files that have this path, in their order
+abbrev pub with_path : List ℕ → List FileCoverage → List FileCoverage
+with_path path files = filter (λ file. same_text path file.path) files
+
+-- what a merged map has at a path, by the files that have it: nothing where there are none, else these as one
+abbrev pub IsMergedAt : List ℕ → List FileCoverage → Option FileCoverage → Type 0
+IsMergedAt path [] at = at ≡ None
+IsMergedAt path (file ∷ files) None = ⊥
+IsMergedAt path (file ∷ files) (Some at) = merged_file path (file ∷ files) ≡ Ok at
+
+-- it has this at each path
+abbrev pub AreByPath : Type 0
+AreByPath = (files sums : List FileCoverage) → merged files ≡ Ok sums → (path : List ℕ) → IsMergedAt path (with_path path files) (found path sums)
+
+-- what is merged already is merged to itself
+abbrev pub AreMergedOnce : Type 0
+AreMergedOnce = (files sums : List FileCoverage) → merged files ≡ Ok sums → merged sums ≡ Ok sums

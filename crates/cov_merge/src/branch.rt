@@ -1,9 +1,11 @@
 ghost use Rattle.std.specs.Prelude.{◌≡◌, map, IfOk};
 ghost use Rattle.cov_merge.specs.Kinds.{paths_with};
+ghost use Rattle.cov_merge.specs.private.Sums.{AreCounts};
 
 use crate::counted::Counted;
 use crate::key::Counter;
 use crate::order::{compare_locations, compare_paths};
+use crate::sums::{add_paths, sums_of_paths};
 use cov_object::{BranchCoverage, Count, FileCoverage, Location, PathCoverage};
 use items::{Items, Memory, Text};
 use std::alloc::Global;
@@ -28,20 +30,24 @@ impl Counted for BranchCoverage {
 
     fn compare(&self, other: &BranchCoverage) -> Ordering {
         let kinds = self.kind.as_str().cmp(other.kind.as_str());
-        let locations = compare_locations(self.location, other.location);
-        let paths = compare_paths(self.paths.as_slice(), other.paths.as_slice());
-        kinds.then(locations.then(paths))
+        kinds
+            .then_with(|| compare_locations(self.location, other.location))
+            .then_with(|| compare_paths(self.paths.as_slice(), other.paths.as_slice()))
     }
 
-    fn counts(&self, alloc: Global) -> Result<Items<Count>, Memory> {
-        path_counts(alloc, self.paths.as_slice())
+    fn first_sums(&self, alloc: Global) -> Result<Vec<u64>, Memory> {
+        sums_of_paths(alloc, self.paths.as_slice())
     }
 
-    fn with_counts(&self, alloc: Global, counts: &[Count]) -> Result<BranchCoverage, Memory> {
+    fn add_to(&self, sums: &mut Vec<u64>) {
+        add_paths(sums, self.paths.as_slice());
+    }
+
+    fn with_counts(&self, alloc: Global, sums: &[u64]) -> Result<BranchCoverage, Memory> {
         Ok(BranchCoverage {
             kind: Text::from_str(alloc, self.kind.as_str())?,
             location: self.location,
-            paths: Items::from_vec(counted_paths(alloc, self.paths.as_slice(), counts)?),
+            paths: counted_paths(alloc, self.paths.as_slice(), sums)?,
         })
     }
 
@@ -55,17 +61,6 @@ impl Counted for BranchCoverage {
     }
 }
 
-// How often each path was taken.
-fn path_counts(alloc: Global, paths: &[PathCoverage]) -> Result<Items<Count>, Memory>
-    ensures { IfOk result (λ counts. counts ≡ map (λ path. path.count) paths.now) }
-{
-    let mut counts = Items::new(alloc);
-    for path in paths {
-        counts.push(path.count)?;
-    }
-    Ok(counts)
-}
-
 // Where each path stands.
 fn path_locations(alloc: Global, paths: &[PathCoverage]) -> Result<Items<Location>, Memory>
     ensures { IfOk result (λ locations. locations ≡ map (λ path. path.location) paths.now) }
@@ -77,20 +72,28 @@ fn path_locations(alloc: Global, paths: &[PathCoverage]) -> Result<Items<Locatio
     Ok(locations)
 }
 
-// The paths with these counts, as many as there are of both.
+// The paths with these sums as their counts, as many as there are of both.
 fn counted_paths(
     alloc: Global,
     paths: &[PathCoverage],
-    counts: &[Count],
-) -> Result<Vec<PathCoverage>, Memory>
-    ensures { IfOk result (λ counted. counted.items ≡ paths_with paths.now counts.now) }
+    sums: &[u64],
+) -> Result<Items<PathCoverage>, Memory>
+    requires { AreCounts sums.now }
+    ensures { IfOk result (λ counted. counted ≡ paths_with paths.now sums.now) }
 {
-    paths
-        .iter()
-        .zip(counts.iter())
-        .map(|(path, count)| PathCoverage {
-            location: path.location,
-            count: *count,
-        })
-        .collect(alloc)
+    let mut counted = Vec::with_capacity(alloc, paths.len())?;
+    let mut rest = sums;
+    for path in paths {
+        match rest.split_first() {
+            None => return Ok(Items::from_vec(counted)),
+            Some((sum, others)) => {
+                counted.push(PathCoverage {
+                    location: path.location,
+                    count: Count::new(*sum),
+                })?;
+                rest = others;
+            }
+        }
+    }
+    Ok(Items::from_vec(counted))
 }

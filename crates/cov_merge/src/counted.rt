@@ -3,10 +3,12 @@ ghost use Rattle.std.specs.Cmp.{IsTotalOrder};
 ghost use Rattle.std.specs.Ordering.{eq_by_cmp};
 ghost use Rattle.std.specs.declared.cmp.Ordering.{Ordering};
 ghost use Rattle.cov_merge.specs.Kind.{Kind};
+ghost use Rattle.cov_merge.specs.Sums.{plus};
+ghost use Rattle.cov_merge.specs.private.Sums.{AreCounts};
 
 use crate::key::Counter;
-use cov_object::{Count, FileCoverage};
-use items::{Items, Memory};
+use cov_object::FileCoverage;
+use items::Memory;
 use std::alloc::Global;
 use std::cmp::Ordering;
 
@@ -26,13 +28,18 @@ pub(crate) trait Counted: Drop {
     fn compare(&self, other: &Self) -> Ordering
         ensures { result ≡ order self.now other.now };
 
-    // How often it ran.
-    fn counts(&self, alloc: Global) -> Result<Items<Count>, Memory>
-        ensures { IfOk result (λ counts. counts ≡ kind.counts self.now) };
+    // How often it ran, as the first sums.
+    fn first_sums(&self, alloc: Global) -> Result<Vec<u64>, Memory>
+        ensures { IfOk result (λ sums. sums.items ≡ kind.counts self.now) };
 
-    // The same with these counts.
-    fn with_counts(&self, alloc: Global, counts: &[Count]) -> Result<Self, Memory>
-        ensures { IfOk result (λ entry. entry ≡ kind.with_counts self.now counts.now) };
+    // Adds how often it ran to running sums.
+    fn add_to(&self, sums: &mut Vec<u64>)
+        ensures { sums.new.items ≡ plus sums.old.items (kind.counts self.now) };
+
+    // The same with these sums as its counts.
+    fn with_counts(&self, alloc: Global, sums: &[u64]) -> Result<Self, Memory>
+        requires { AreCounts sums.now }
+        ensures { IfOk result (λ entry. entry ≡ kind.with_counts self.now sums.now) };
 
     // What names one of its counts.
     fn counter(&self, alloc: Global, place: usize) -> Result<Counter, Memory>

@@ -7,7 +7,7 @@ ghost use Rattle.cov_merge.specs.private.Table.{tallies_of};
 use crate::counted::Counted;
 use crate::fault::MergeFault;
 use crate::key::Key;
-use crate::sums::{Exact, as_counts};
+use crate::sums::first_too_large;
 use crate::table::add_all;
 use crate::tally::Tally;
 use cov_object::FileCoverage;
@@ -49,11 +49,11 @@ fn sum_up<'a, T: Counted>(
 
 // An entry with its sums.
 fn total_of<T: Counted>(alloc: Global, path: &str, tally: &Tally<'_, T>) -> Result<T, MergeFault>
-    ensures { Answers result (total T.kind path.now (tally.now.entry.now, tally.now.sums)) }
+    ensures { Answers result (total T.kind path.now (tally.now.entry.now, tally.now.sums.items)) }
 {
-    match as_counts(alloc, tally.sums.as_slice())? {
-        Exact::Counts(counts) => Ok(tally.entry.with_counts(alloc, counts.as_slice())?),
-        Exact::TooLarge(place, sum) => Err(MergeFault::CountTooLarge {
+    match first_too_large(tally.sums.as_slice()) {
+        None => Ok(tally.entry.with_counts(alloc, tally.sums.as_slice())?),
+        Some((place, sum)) => Err(MergeFault::CountTooLarge {
             key: Key {
                 path: Text::from_str(alloc, path)?,
                 counter: tally.entry.counter(alloc, place)?,

@@ -1,4 +1,4 @@
-ghost use Rattle.cov_merge.specs.Laws.{AreSummed, HaveTheirKeys, HaveEachOnce, AreOrderFree, AreGroupingFree, AreLeftToRight, SumAlone};
+ghost use Rattle.cov_merge.specs.Laws.{AreSummed, HaveTheirKeys, HaveEachOnce, AreOrderFree, AreGroupingFree, AreLeftToRight, SumAlone, AreByPath, AreMergedOnce};
 
 /// What is merged has the keys of the files, each once and no others, and at each the sum of the
 /// counts; also where a file is merged with nothing.
@@ -16,4 +16,11 @@ pub fn any_order()
     ensures order { AreOrderFree }
     ensures grouping { AreGroupingFree }
     ensures left_to_right { AreLeftToRight }
+{}
+
+/// A merged map has at each path that a file has all files with that path as one, in their order,
+/// and at others none. A map that is merged already is merged to itself.
+pub fn each_path()
+    ensures by_path { AreByPath }
+    ensures merged_again { AreMergedOnce }
 {}

@@ -16,10 +16,8 @@ mod statement;
 mod sums;
 mod table;
 mod tally;
-#[cfg(test)]
-mod tests;
 
 pub use fault::MergeFault;
 pub use key::{Counter, Key};
-pub use laws::{any_order, each_key};
+pub use laws::{any_order, each_key, each_path};
 pub use maps::{merge, merge_all};

@@ -10,7 +10,7 @@ use std::cmp::Ordering;
 pub(crate) fn compare_locations(a: Location, b: Location) -> Ordering
     ensures { result ≡ location_cmp a b }
 {
-    compare_ends(a.start, b.start).then(compare_ends(a.end, b.end))
+    compare_ends(a.start, b.start).then_with(|| compare_ends(a.end, b.end))
 }
 
 // Compares two places; none comes first.
@@ -35,7 +35,7 @@ fn compare_positions(a: Position, b: Position) -> Ordering
     a.line
         .get()
         .cmp(&b.line.get())
-        .then(a.column.cmp(&b.column))
+        .then_with(|| a.column.cmp(&b.column))
 }
 
 // Compares the locations of paths, one after another.

@@ -1,8 +1,9 @@
 use crate::counted::Counted;
 use crate::key::Counter;
 use crate::order::compare_locations;
+use crate::sums::{add_one, sums_of_one};
 use cov_object::{Count, FileCoverage, StatementCoverage};
-use items::{Items, Memory};
+use items::Memory;
 use std::alloc::Global;
 use std::cmp::Ordering;
 
@@ -27,15 +28,17 @@ impl Counted for StatementCoverage {
         compare_locations(self.location, other.location)
     }
 
-    fn counts(&self, alloc: Global) -> Result<Items<Count>, Memory> {
-        let mut counts = Items::new(alloc);
-        counts.push(self.count)?;
-        Ok(counts)
+    fn first_sums(&self, alloc: Global) -> Result<Vec<u64>, Memory> {
+        sums_of_one(alloc, self.count)
     }
 
-    fn with_counts(&self, _alloc: Global, counts: &[Count]) -> Result<StatementCoverage, Memory> {
-        let count = match counts {
-            [count, ..] => *count,
+    fn add_to(&self, sums: &mut Vec<u64>) {
+        add_one(sums, self.count);
+    }
+
+    fn with_counts(&self, _alloc: Global, sums: &[u64]) -> Result<StatementCoverage, Memory> {
+        let count = match sums {
+            [sum, ..] => Count::new(*sum),
             [] => self.count,
         };
         Ok(StatementCoverage {

@@ -1,10 +1,10 @@
-ghost use Rattle.std.specs.Prelude.{◌≡◌, None, Some, IfOk, OnOk, OnErr, MatchResult};
+ghost use Rattle.std.specs.Prelude.{◌≡◌, [], ◌∷◌, None, map, IfOk};
 ghost use Rattle.cov_merge.specs.Sums as spec;
 ghost use Rattle.cov_merge.specs.Entries.{too_large};
-ghost use Rattle.cov_merge.specs.private.Table.{IsExactly};
+ghost use Rattle.cov_merge.specs.private.Sums.{AreCounts};
 
-use cov_object::Count;
-use items::{Items, Memory};
+use cov_object::{Count, PathCoverage};
+use items::Memory;
 use std::alloc::Global;
 
 /// 2^53: a count is below it.
@@ -17,44 +17,55 @@ fn running(sum: u64, count: Count) -> u64
     if sum < LIMIT { sum + count.get() } else { sum }
 }
 
-// The sums of one entry.
-pub(crate) fn first_sums(alloc: Global, counts: &[Count]) -> Result<Items<u64>, Memory>
-    ensures { IfOk result (λ sums. sums ≡ counts.now) }
+// The sums of an entry that has one count.
+pub(crate) fn sums_of_one(alloc: Global, count: Count) -> Result<Vec<u64>, Memory>
+    ensures { IfOk result (λ sums. sums.items ≡ count ∷ []) }
 {
-    let mut sums = Items::new(alloc);
-    for count in counts {
-        sums.push(count.get())?;
+    let mut sums = Vec::with_capacity(alloc, 1)?;
+    sums.push(count.get())?;
+    Ok(sums)
+}
+
+// The sums of an entry that has a count for each path.
+pub(crate) fn sums_of_paths(alloc: Global, paths: &[PathCoverage]) -> Result<Vec<u64>, Memory>
+    ensures { IfOk result (λ sums. sums.items ≡ map (λ path. path.count) paths.now) }
+{
+    let mut sums = Vec::with_capacity(alloc, paths.len())?;
+    for path in paths {
+        sums.push(path.count.get())?;
     }
     Ok(sums)
 }
 
-// Running sums, each with its count.
-pub(crate) fn plus(alloc: Global, sums: &[u64], counts: &[Count]) -> Result<Vec<u64>, Memory>
-    ensures { IfOk result (λ after. after.items ≡ spec.plus sums.now counts.now) }
+// Adds a count to a running sum; there is one for each count.
+pub(crate) fn add_one(sums: &mut Vec<u64>, count: Count)
+    ensures { sums.new.items ≡ spec.plus sums.old.items (count ∷ []) }
 {
-    sums.iter()
-        .zip(counts.iter())
-        .map(|(sum, count)| running(*sum, *count))
-        .collect(alloc)
+    sums.truncate(1);
+    if let Some(sum) = sums.first_mut() {
+        *sum = running(*sum, count);
+    }
 }
 
-// What sums are as counts.
-pub(crate) enum Exact {
-    // the counts
-    Counts(Items<Count>),
-    // the first sum that is 2^53 or more, and its place
-    TooLarge(usize, u64),
+// Adds the counts of paths to running sums, as far as there are both.
+pub(crate) fn add_paths(sums: &mut Vec<u64>, paths: &[PathCoverage])
+    ensures { sums.new.items ≡ spec.plus sums.old.items (map (λ path. path.count) paths.now) }
+{
+    sums.truncate(paths.len());
+    for place in 0..sums.len() {
+        sums[place] = running(sums[place], paths[place].count);
+    }
 }
 
-pub(crate) fn as_counts(alloc: Global, sums: &[u64]) -> Result<Exact, Memory>
-    ensures { IfOk result (λ counts. IsExactly sums.now counts) }
+// The first sum that is 2^53 or more, and its place.
+pub(crate) fn first_too_large(sums: &[u64]) -> Option<(usize, u64)>
+    ensures found { result ≡ too_large 0 sums.now }
+    ensures counts { result ≡ None → AreCounts sums.now }
 {
-    let mut counts = Items::new(alloc);
     for (place, sum) in sums.iter().enumerate() {
         if *sum >= LIMIT {
-            return Ok(Exact::TooLarge(place, *sum));
+            return Some((place, *sum));
         }
-        counts.push(Count::new(*sum))?;
     }
-    Ok(Exact::Counts(counts))
+    None
 }

@@ -4,10 +4,8 @@ ghost use Rattle.cov_merge.specs.private.Table.{tallies_of, added_at, AreFound};
 
 use crate::by_key::ByKey;
 use crate::counted::Counted;
-use crate::sums::{first_sums, plus};
 use crate::tally::Tally;
-use cov_object::Count;
-use items::{Items, Memory};
+use items::Memory;
 use std::alloc::Global;
 use std::collections::BTreeMap;
 
@@ -23,12 +21,14 @@ fn add<'a, T: Counted>(
     ensures found { OnOk result (AreFound T.kind T.order places.new (tallies_of tallies.new.items)) }
     ensures added { OnOk result (tallies_of tallies.new.items ≡ spec.added T.kind (tallies_of tallies.old.items) entry.now) }
 {
-    let counts = entry.counts(alloc)?;
     match places.get(&ByKey(entry)).copied() {
-        Some(place) => add_at(alloc, tallies, place, counts.as_slice()),
+        Some(place) => {
+            add_at(tallies, place, entry);
+            Ok(())
+        }
         None => {
             let place = tallies.len();
-            let sums = first_sums(alloc, counts.as_slice())?;
+            let sums = entry.first_sums(alloc)?;
             places.insert(ByKey(entry), place)?;
             tallies.push(Tally { entry, sums })?;
             Ok(())
@@ -36,19 +36,13 @@ fn add<'a, T: Counted>(
     }
 }
 
-// Adds counts to the sums at a place.
-fn add_at<T: Drop>(
-    alloc: Global,
-    tallies: &mut Vec<Tally<'_, T>>,
-    place: usize,
-    counts: &[Count],
-) -> Result<(), Memory>
+// Adds an entry to the sums at a place.
+fn add_at<T: Counted>(tallies: &mut Vec<Tally<'_, T>>, place: usize, entry: &T)
     requires { place < length tallies.old.items }
-    ensures { OnOk result (tallies_of tallies.new.items ≡ added_at place counts.now (tallies_of tallies.old.items)) }
+    ensures { tallies_of tallies.new.items ≡ added_at place (T.kind.counts entry.now) (tallies_of tallies.old.items) }
 {
     let tally = &mut tallies[place];
-    tally.sums = Items::from_vec(plus(alloc, tally.sums.as_slice(), counts)?);
-    Ok(())
+    entry.add_to(&mut tally.sums);
 }
 
 // Adds the entries of a file.

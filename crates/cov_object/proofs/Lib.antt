@@ -1,10 +1,13 @@
+pub mod ByFile
 pub mod Files
 pub mod DigitIds
+pub mod EscapeLemmas
 pub mod IdOrder
+pub mod JsonValue
 pub mod Numbers
 pub mod OrderLemmas
 pub mod PieceLemmas
-pub mod Plain
+pub mod PlaceLemmas
 pub mod ReadBack
 pub mod ReadFiles
 pub mod ReadLemmas

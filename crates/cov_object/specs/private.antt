@@ -1,4 +1,6 @@
+pub mod ByFile
 pub mod Counted
+pub mod Escapes
 pub mod Formed
 pub mod Order
 pub mod Piece

@@ -5,12 +5,12 @@ ghost use Rattle.cov_object.specs.declared.counted.Part.{Part};
 ghost use Rattle.cov_object.specs.private.Counted.{part_of};
 ghost use Rattle.cov_object.specs.Json as spec;
 
+use crate::description::{push_branch, push_function};
+use crate::digits::push_digits;
 use crate::file::{BranchCoverage, FunctionCoverage, StatementCoverage};
-use crate::list::path_counts;
-use crate::piece::push_value;
-use crate::value::{branch_value, function_value, location_value};
+use crate::list::push_path_counts;
+use crate::place::push_location;
 use items::Memory;
-use serde_json::Value;
 use std::alloc::Global;
 
 // What the JSON has of a thing, each in an object of its own.
@@ -35,10 +35,10 @@ pub(crate) trait Counted {
 impl Counted for StatementCoverage {
     ghost json = { λ part statement. part_of part (spec.count_data statement.count) (spec.location_data statement.location) };
 
-    fn push(&self, alloc: Global, out: &mut Vec<u8>, part: Part) -> Result<(), Memory> {
+    fn push(&self, _alloc: Global, out: &mut Vec<u8>, part: Part) -> Result<(), Memory> {
         match part {
-            Part::Counts => push_value(alloc, out, &Value::from(self.count.get())),
-            Part::Description => push_value(alloc, out, &location_value(alloc, self.location)?),
+            Part::Counts => push_digits(out, self.count.get()),
+            Part::Description => push_location(out, self.location),
         }
     }
 }
@@ -48,8 +48,8 @@ impl Counted for FunctionCoverage {
 
     fn push(&self, alloc: Global, out: &mut Vec<u8>, part: Part) -> Result<(), Memory> {
         match part {
-            Part::Counts => push_value(alloc, out, &Value::from(self.count.get())),
-            Part::Description => push_value(alloc, out, &function_value(alloc, self)?),
+            Part::Counts => push_digits(out, self.count.get()),
+            Part::Description => push_function(alloc, out, self),
         }
     }
 }
@@ -59,12 +59,8 @@ impl Counted for BranchCoverage {
 
     fn push(&self, alloc: Global, out: &mut Vec<u8>, part: Part) -> Result<(), Memory> {
         match part {
-            Part::Counts => push_value(
-                alloc,
-                out,
-                &Value::Array(path_counts(alloc, self.paths.as_slice())?),
-            ),
-            Part::Description => push_value(alloc, out, &branch_value(alloc, self)?),
+            Part::Counts => push_path_counts(out, self.paths.as_slice()),
+            Part::Description => push_branch(alloc, out, self),
         }
     }
 }

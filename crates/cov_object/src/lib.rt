@@ -1,14 +1,19 @@
 //! The coverage of a program's files, and its JSON.
 #![tactic(auto)]
 
+mod by_file;
 mod counted;
 mod described;
+mod description;
+mod digits;
+mod escapes;
 mod fault;
 mod file;
 mod floats;
 mod formed;
 mod from_value;
 mod ids;
+mod json_value;
 mod list;
 mod location;
 mod map;
@@ -17,10 +22,10 @@ mod numbered;
 mod objects;
 mod order;
 mod piece;
+mod place;
 mod read;
 mod source_map_text;
 mod things;
-mod value;
 mod write;
 
 pub use fault::CoverageFault;

@@ -1,31 +1,39 @@
-ghost use Rattle.std.specs.Prelude.{◌≡◌, map, IfOk};
-ghost use Rattle.serde_json.specs.View.{view};
+ghost use Rattle.std.specs.Prelude.{◌≡◌, ◌++◌, map, OnOk};
+ghost use Rattle.serde_json.specs.Data.{array};
+ghost use Rattle.serde_json.specs.View.{items_of};
+ghost use Rattle.serde_json.specs.Written.{compact_text};
 ghost use Rattle.cov_object.specs.Json as spec;
 
+use crate::digits::push_digits;
 use crate::file::PathCoverage;
-use crate::value::location_value;
+use crate::piece::push_comma;
+use crate::place::push_location;
 use items::Memory;
-use serde_json::Value;
-use std::alloc::Global;
 
-// The JSON of where each path of a branch stands.
-pub(crate) fn path_locations(alloc: Global, paths: &[PathCoverage]) -> Result<Vec<Value>, Memory>
-    ensures { IfOk result (λ values. map view values.items ≡ map (λ path. spec.location_data path.location) paths.now) }
+// Writes where each path of a branch stands, at the end of `out`.
+pub(crate) fn push_path_locations(out: &mut Vec<u8>, paths: &[PathCoverage]) -> Result<(), Memory>
+    ensures { OnOk result (out.new.items ≡ out.old.items
+        ++ compact_text (array (items_of (map (λ path. spec.location_data path.location) paths.now)))) }
 {
-    let mut values = Vec::new(alloc);
-    for path in paths {
-        values.push(location_value(alloc, path.location)?)?;
+    out.push(b'[')?;
+    for (place, path) in paths.iter().enumerate() {
+        push_comma(out, place > 0)?;
+        push_location(out, path.location)?;
     }
-    Ok(values)
+    out.push(b']')?;
+    Ok(())
 }
 
-// The JSON of how often each path of a branch was taken.
-pub(crate) fn path_counts(alloc: Global, paths: &[PathCoverage]) -> Result<Vec<Value>, Memory>
-    ensures { IfOk result (λ values. map view values.items ≡ map (λ path. spec.count_data path.count) paths.now) }
+// Writes how often each path of a branch was taken.
+pub(crate) fn push_path_counts(out: &mut Vec<u8>, paths: &[PathCoverage]) -> Result<(), Memory>
+    ensures { OnOk result (out.new.items ≡ out.old.items
+        ++ compact_text (array (items_of (map (λ path. spec.count_data path.count) paths.now)))) }
 {
-    let mut values = Vec::new(alloc);
-    for path in paths {
-        values.push(Value::from(path.count.get()))?;
+    out.push(b'[')?;
+    for (place, path) in paths.iter().enumerate() {
+        push_comma(out, place > 0)?;
+        push_digits(out, path.count.get())?;
     }
-    Ok(values)
+    out.push(b']')?;
+    Ok(())
 }

@@ -1,6 +1,7 @@
 ghost use Rattle.std.specs.Prelude.{◌≡◌, map, string_bytes, IfOk};
 ghost use Rattle.cov_object.specs.private.Order.{in_key_order};
 
+use crate::digits::digits;
 use items::Memory;
 use std::alloc::Global;
 use std::collections::BTreeMap;
@@ -14,7 +15,7 @@ pub(crate) fn in_digit_order<T>(
 {
     let mut sorted = BTreeMap::new(alloc);
     for (id, thing) in things {
-        sorted.insert(format!(in alloc; "{id}")?, thing)?;
+        sorted.insert(digits(alloc, *id)?, thing)?;
     }
     sorted.into_iter().collect(alloc)
 }

@@ -1,12 +1,11 @@
-ghost use Rattle.std.specs.Prelude.{◌≡◌, ◌≢◌, ◌+◌, ◌≤◌, Ok, Err, option_map, IfOk, IfErr, IfSome};
-ghost use Rattle.serde_json.specs.Data.{depth, members_depth};
-ghost use Rattle.serde_json.specs.Find.{as_object};
-ghost use Rattle.serde_json.specs.Read.{max_depth};
-ghost use Rattle.serde_json.specs.View.{view, members_view};
+ghost use Rattle.std.specs.Prelude.{◌≡◌, ◌≢◌, ◌+◌, ◌≤◌, Ok, Err, IfOk, IfErr};
+ghost use Rattle.serde_json.specs.Data.{depth};
+ghost use Rattle.serde_json.specs.View.{view};
 ghost use Rattle.cov_object.specs.SourceMapText.{most_depth};
 ghost use Rattle.cov_object.specs.declared.fault.CoverageFault.TheVariants.{Memory as OutOfMemory};
 ghost use Rattle.cov_object.specs.Read as spec;
 
+use crate::by_file::files_in;
 use crate::fault::{CoverageFault, bad_member};
 use crate::file::{BranchCoverage, FileCoverage, FunctionCoverage, StatementCoverage};
 use crate::from_value::text_in;
@@ -14,9 +13,9 @@ use crate::map::CoverageMap;
 use crate::numbered::Numbered;
 use crate::source_map_text::SourceMapText;
 use crate::things::read_things;
-use items::{Memory, Text};
-use serde_json::{Map, Value};
-use std::alloc::{AllocError, Global};
+use items::Text;
+use serde_json::Value;
+use std::alloc::Global;
 
 /// The coverage map that bytes tell as JSON, Istanbul's `coverage-final.json`: an object from each
 /// file's path to its coverage. Members that aren't known are passed over.
@@ -33,55 +32,18 @@ pub fn read_json(alloc: Global, bytes: &[u8]) -> Result<CoverageMap, CoverageFau
     if bytes.len() > 1 << 24 {
         return Err(CoverageFault::TooLong);
     }
-    match json_value(alloc, bytes)? {
-        Some(value) => read_map(alloc, &value),
-        None => Err(CoverageFault::BadJson),
-    }
-}
-
-// The value that bytes are as JSON.
-fn json_value(alloc: Global, bytes: &[u8]) -> Result<Option<Value>, Memory>
-    ensures value { IfOk result (λ value. option_map view value ≡ spec.json_of bytes.now) }
-    ensures nests { IfOk result (λ value. IfSome value (λ value. depth (view value) ≤ max_depth)) }
-{
-    match Value::from_slice(alloc, bytes) {
-        Ok(value) => Ok(Some(value)),
-        Err(error) => if error.is_memory() {
-            Err(AllocError)
-        } else {
-            Ok(None)
-        },
-    }
-}
-
-// The files that a value tells.
-fn read_map(alloc: Global, value: &Value) -> Result<CoverageMap, CoverageFault>
-    requires { depth (view value.now) ≤ max_depth }
-    ensures ok { IfOk result (λ map. spec.files_or_fault (as_object (view value.now)) ≡ Ok map) }
-    ensures err { IfErr result (λ fault. fault ≢ OutOfMemory → spec.files_or_fault (as_object (view value.now)) ≡ Err fault) }
-{
-    match value.as_object() {
-        Some(members) => read_files(alloc, members),
-        None => Err(bad_member(alloc, "", "file")),
-    }
-}
-
-// The files under these keys.
-fn read_files(alloc: Global, members: &Map<String, Value>) -> Result<CoverageMap, CoverageFault>
-    requires { members_depth (members_view members.now.entries) ≤ most_depth + 1 }
-    ensures ok { IfOk result (λ map. spec.files_of (members_view members.now.entries) ≡ Ok map) }
-    ensures err { IfErr result (λ fault. fault ≢ OutOfMemory → spec.files_of (members_view members.now.entries) ≡ Err fault) }
-{
-    let mut map = CoverageMap::new(alloc);
-    for (key, value) in members.iter() {
-        let file = read_file(alloc, key.as_str(), value)?;
-        drop(map.insert(file)?);
-    }
-    Ok(map)
+    let Ok(text) = std::str::from_utf8(bytes) else {
+        return Err(CoverageFault::BadJson);
+    };
+    files_in(alloc, text)
 }
 
 // The file under a key.
-fn read_file(alloc: Global, key: &str, value: &Value) -> Result<FileCoverage, CoverageFault>
+pub(crate) fn read_file(
+    alloc: Global,
+    key: &str,
+    value: &Value,
+) -> Result<FileCoverage, CoverageFault>
     requires { depth (view value.now) ≤ most_depth + 1 }
     ensures ok { IfOk result (λ file. spec.file_of key.now (view value.now) ≡ Ok file) }
     ensures err { IfErr result (λ fault. fault ≢ OutOfMemory → spec.file_of key.now (view value.now) ≡ Err fault) }

@@ -1,11 +1,11 @@
 -- From what came of the work on a source to the status, the output and the line that are due.
-use Rattle.std.proofs.Common.{◌≡◌, ℕ, ◌⊎◌, inl, inr, List, [], Option, None, Some, IsSome, refl, sym, ap, ◌∙◌, subst, arith, append-nil}
+use Rattle.std.proofs.Common.{◌≡◌, ℕ, ◌⊎◌, inl, inr, List, Option, None, Some, IsSome, refl, sym, ap, ◌∙◌, subst, arith}
 use Rattle.std.specs.Prelude.{option_map}
 use Rattle.js_text.specs.Reads.{Reads}
 use Rattle.js_meaning.specs.declared.outcome.End.{End}
 use Rattle.js_meaning.specs.declared.outcome.End.TheVariants as outcome
 use Rattle.cov_base.specs.Store.{Held}
-use Rattle.cov_base.specs.Sink.{after_more, TakesPrefix}
+use Rattle.cov_base.specs.Sink.{TakesPrefix}
 use Rattle.cov_words.specs.declared.command.Command.TheVariants.{OnSource}
 use Rattle.cov_words.specs.declared.command.SourceTask.{SourceTask}
 use Rattle.cov_tool.specs.Line as said

@@ -1,29 +1,23 @@
 -- From what coverage files come to, to the status, the output, the put and the lines that are due.
-use Rattle.std.proofs.Common.{◌≡◌, ◌≢◌, ℕ, ◌≤◌, ◌⊎◌, inl, inr, List, [], ◌∷◌, ◌++◌, length, Option, None, Some, IsSome, refl, sym, ap, ◌∙◌, subst, arith}
-use Rattle.std.specs.Prelude.{Result, Ok, Err, Vec, OnOk}
-use Rattle.std.specs.declared.alloc.Global.{Global}
-use Rattle.cov_base.specs.Store.{Held, BothTell, KeepsOthers, PutsAt}
+use Rattle.std.proofs.Common.{◌≡◌, ◌≢◌, ℕ, ◌⊎◌, inl, inr, List, [], ◌∷◌, Option, None, Some, IsSome, refl, sym, ap, ◌∙◌, subst, arith}
+use Rattle.std.specs.Prelude.{Ok}
+use Rattle.cov_base.specs.Store.{Held}
 use Rattle.cov_base.specs.Sink.{after_more, TakesPrefix}
-use Rattle.cov_base.specs.declared.failed.Failed.{Failed}
 use Rattle.cov_object.specs.declared.file.FileCoverage.{FileCoverage}
 use Rattle.cov_summary.specs.declared.shortfall.Shortfall.{Shortfall}
-use Rattle.cov_summary.specs.Shortfall.{shortfalls_of}
-use Rattle.cov_summary.specs.Sums.{summary_of}
-use Rattle.cov_inputs.specs.Inputs.{Input, AreRead, AreRefused, FailsAt, HaveSums, IsCause, gathered, read_from}
+use Rattle.cov_inputs.specs.Inputs.{Input, AreRead, AreRefused, HaveSums, IsCause}
 use Rattle.cov_inputs.specs.declared.refusal.Refusal.{Refusal}
 use Rattle.cov_inputs.specs.declared.refusal.Refusal.TheVariants as refusal
 use Rattle.cov_inputs.specs.declared.fault.InputFault.{InputFault}
 use Rattle.cov_inputs.specs.declared.fault.InputFault.TheVariants.{Refused, ReadFailed, Memory}
-use Rattle.cov_words.specs.declared.command.Command.{Command}
 use Rattle.cov_words.specs.declared.command.Command.TheVariants.{OnCoverage}
 use Rattle.cov_words.specs.declared.command.CoverageTask.{CoverageTask}
-use Rattle.cov_words.specs.declared.command.CoverageTask.TheVariants.{Merge, Report, Check}
 use Rattle.cov_tool.specs.Line as said
-use Rattle.cov_tool.specs.Coverage.{Verdict, ComesTo, IsDue, IsOutput, IsMessage, PrintsOutput, PrintsPrefix, Puts, PutsSums, SaysVerdict, check_verdict, json_line, message_of_refusal, refused, status_of_refusal, verdict, verdict_of, verdict_on}
+use Rattle.cov_tool.specs.Coverage.{Verdict, ComesTo, IsDue, IsOutput, PrintsOutput, PrintsPrefix, check_verdict, message_of_refusal, refused, status_of_refusal, verdict, verdict_of, verdict_on}
 use Rattle.cov_tool.specs.Program as P
-use Rattle.cov_tool.specs.Program.{GivesWay, PrintsAll, PrintsNothing}
+use Rattle.cov_tool.specs.Program.{GivesWay, PrintsAll}
 use Rattle.cov_tool.specs.private.Cause.{status_of}
-use Rattle.cov_tool.specs.private.Performed.{ComesOut, PutsBy, StoredBy, message_of_fault}
+use Rattle.cov_tool.specs.private.Performed.{ComesOut, message_of_fault}
 use Rattle.cov_tool.specs.declared.status.Status.{Status}
 use Rattle.cov_tool.specs.declared.status.Status.TheVariants as status
 use Rattle.cov_tool.proofs.Stands.{Stands, IsSaid, after_nothing, gives_way, memory_is_said, some_inputs}

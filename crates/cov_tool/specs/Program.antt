@@ -1,6 +1,6 @@
 -- What the program owes, by what the words ask: for each status when it comes, what has been printed, what the store holds, and
 -- the lines on standard error.
-use Rattle.std.specs.Prelude.{◌≡◌, ◌≢◌, ℕ, ◌<◌, ◌≤◌, ◌⊎◌, List, [], length, take, Option, None, Some, IsSome}
+use Rattle.std.specs.Prelude.{◌≡◌, ℕ, ◌<◌, ◌≤◌, ◌⊎◌, List, [], length, take, Option, None, Some, IsSome}
 use Rattle.cov_base.specs.Store.{Held}
 use Rattle.cov_base.specs.Sink.{after_more, TakesPrefix}
 use Rattle.cov_base.specs.Causes.{Rose}

@@ -1,6 +1,5 @@
 -- Worked examples: what words ask.
 use Rattle.std.specs.Prelude.{◌≡◌, ℕ, List, [], ◌∷◌, map, Option, Some, None, codes}
-use Rattle.cov_summary.specs.declared.shortfall.Thresholds.{Thresholds}
 use Rattle.cov_words.specs.declared.command.Command.{Command}
 use Rattle.cov_words.specs.declared.command.Command.TheVariants.{OnSource, OnCoverage}
 use Rattle.cov_words.specs.declared.command.SourceTask.TheVariants as task

@@ -7,8 +7,9 @@ ghost use Rattle.js_text.specs.Lex as lex;
 ghost use Rattle.js_text.specs.Number as spec;
 
 use crate::TokenKind;
-use crate::character::{is_digit, starts_identifier};
+use crate::character::is_digit;
 use crate::scan::{advance, between};
+use crate::word::begins_identifier;
 use js_text::Cursor;
 
 /// The base of a number's digits.
@@ -161,10 +162,7 @@ fn skip_based(cursor: &mut Cursor<'_>) -> bool
 fn ends(cursor: &Cursor<'_>) -> bool
     ensures { result ≡ spec.ends_number cursor.now.after }
 {
-    match cursor.peek() {
-        Some(next) => !(starts_identifier(next) || is_digit(next) || next == '\\'),
-        None => true,
-    }
+    !(begins_identifier(cursor) || cursor.peek().is_some_and(is_digit))
 }
 
 /// Moves over the rest of a number without fraction and exponent, after its digits, and says whether

@@ -1,4 +1,4 @@
-ghost use Rattle.std.specs.Prelude.{◌≡◌, ◌≤◌, ℕ, length, drop, slice_get, zero, Some, None, if◌then◌else◌};
+ghost use Rattle.std.specs.Prelude.{◌≡◌, ◌<◌, ◌≤◌, ℕ, length, drop, slice_get, zero, true, false, Some, None, if◌then◌else◌};
 ghost use Rattle.std.specs.List.{list_any};
 ghost use Rattle.js_lexer.specs.private.Class.{test_of};
 ghost use Rattle.js_lexer.specs.Token.{kind_of, KindIs};
@@ -6,7 +6,7 @@ ghost use Rattle.js_text.specs.Identifier as spec;
 ghost use Rattle.js_text.specs.Lex as lex;
 
 use crate::TokenKind;
-use crate::character::Class;
+use crate::character::{Class, starts_identifier};
 use crate::escape::identifier_escape;
 use crate::scan::{advance, between, skip};
 use js_text::Cursor;
@@ -26,26 +26,52 @@ fn skip_escape(cursor: &mut Cursor<'_>, class: Class) -> bool
     }
 }
 
-/// Moves over what an identifier goes on with, and says whether each backslash in it begins an
-/// escape of such a character.
-fn skip_rest(cursor: &mut Cursor<'_>) -> bool
-    ensures rest { spec.identifier_rest zero cursor.old.after ≡ (if result then Some cursor.new.after else None) }
+/// Moves over a backslash and its escape, if they follow and stand for a character of a class, and
+/// says whether they do. Where they don't, nothing changes.
+fn skip_escaped(cursor: &mut Cursor<'_>, class: Class) -> bool
+    ensures rest { spec.escaped_rest (test_of class) cursor.old.after ≡ (if result then Some cursor.new.after else None) }
+    ensures text { lex.characters_of cursor.new ≡ lex.characters_of cursor.old }
+    ensures onward { length cursor.new.after ≤ length cursor.old.after }
+    ensures shorter { result ≡ true → length cursor.new.after < length cursor.old.after }
+    ensures unmoved { result ≡ false → cursor.new ≡ cursor.old }
+{
+    if cursor.peek() != Some('\\') {
+        return false;
+    }
+    let mut end = cursor.again();
+    advance(&mut end);
+    if skip_escape(&mut end, class) {
+        *cursor = end;
+        true
+    } else {
+        false
+    }
+}
+
+/// Whether an identifier starts there.
+pub(crate) fn begins_identifier(cursor: &Cursor<'_>) -> bool
+    ensures { result ≡ spec.begins_identifier cursor.now.after }
+{
+    let mut end = cursor.again();
+    cursor.peek().is_some_and(starts_identifier) || skip_escaped(&mut end, Class::First)
+}
+
+/// Moves over what an identifier goes on with.
+fn skip_rest(cursor: &mut Cursor<'_>)
+    ensures rest { cursor.new.after ≡ spec.identifier_rest zero cursor.old.after }
     ensures text { lex.characters_of cursor.new ≡ lex.characters_of cursor.old }
     ensures onward { length cursor.new.after ≤ length cursor.old.after }
 {
     loop {
         skip(cursor, Class::Identifier);
-        if cursor.peek() != Some('\\') {
-            return true;
-        }
-        advance(cursor);
-        if !skip_escape(cursor, Class::Identifier) {
-            return false;
+        if !skip_escaped(cursor, Class::Identifier) {
+            return;
         }
     }
 }
 
-/// Moves over the rest of an identifier, after its first character.
+/// Moves over the rest of an identifier, after its first character, and says whether there is one: a
+/// backslash begins an escape.
 fn skip_after(cursor: &mut Cursor<'_>, first: char) -> bool
     ensures rest { spec.after_first first cursor.old.after ≡ (if result then Some cursor.new.after else None) }
     ensures text { lex.characters_of cursor.new ≡ lex.characters_of cursor.old }
@@ -54,7 +80,8 @@ fn skip_after(cursor: &mut Cursor<'_>, first: char) -> bool
     if first == '\\' && !skip_escape(cursor, Class::First) {
         return false;
     }
-    skip_rest(cursor)
+    skip_rest(cursor);
+    true
 }
 
 /// Whether a backslash is in a text.
@@ -75,7 +102,8 @@ fn word_of(spelling: &str) -> TokenKind<'_>
     }
 }
 
-/// A word, whose first character follows; none where a backslash in it begins no escape.
+/// A word, whose first character follows; none where that is a backslash that begins no escape of
+/// a character that starts one.
 pub(crate) fn word<'a>(cursor: &mut Cursor<'a>, first: char) -> Option<TokenKind<'a>>
     requires { slice_get cursor.old.after 0 ≡ Some first }
     ensures { KindIs result (lex.token_to spec.word_of_bytes first (drop 1 cursor.old.after) (spec.after_first first (drop 1 cursor.old.after))) cursor.old cursor.new }

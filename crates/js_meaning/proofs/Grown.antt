@@ -1,12 +1,11 @@
 -- Every form and every step of a program puts more after what was printed and entered.
-use Rattle.std.proofs.Common.{◌≡◌, ℕ, zero, suc, Bool, true, false, List, [], ◌∷◌, ◌++◌, Option, Some, None, refl, if◌then◌else◌, ℤ, codes}
-use Rattle.js_tree.specs.declared.place.Loc.{Loc}
+use Rattle.std.proofs.Common.{ℕ, Bool, true, false, List, [], ◌∷◌, ◌++◌, Option, Some, None, if◌then◌else◌, ℤ, codes}
 use Rattle.js_tree.specs.declared.operators.BinaryOperator.{BinaryOperator}
 use Rattle.js_tree.specs.declared.operators.AssignmentOperator.TheVariants as assignment
 use Rattle.js_tree.specs.declared.operators.VariableKind.TheVariants as variable
 use Rattle.js_tree.specs.Plain as P
-use Rattle.js_tree.specs.Plain.{Expr, IdentifierReference, This, NullLiteral, BooleanLiteral, NumericLiteral, StringLiteral, ArrayLiteral, ObjectLiteral, FunctionExpression, ArrowFunction, RegularExpressionLiteral, TemplateLiteral, Parenthesized, NamedMember, ComputedMember, New, PostfixUpdate, PrefixUpdate, Unary, Binary, Logical, Conditional, Assignment, Comma, Exprs, no_expr, more_expr}
-use Rattle.js_tree.specs.Plain.{Stmt, Directive, Block, VariableDeclaration, Empty, Expression, If, DoWhile, While, For, ForIn, ForOf, Continue, Break, Return, Switch, Labelled, Throw, TryCatch, TryFinally, TryCatchFinally, Debugger, FunctionDeclaration, Stmts, no_stmt, more_stmt, MaybeStmt, none_stmt, some_stmt}
+use Rattle.js_tree.specs.Plain.{Expr, IdentifierReference, NullLiteral, BooleanLiteral, NumericLiteral, StringLiteral, Parenthesized, Binary, Assignment, Exprs, no_expr, more_expr}
+use Rattle.js_tree.specs.Plain.{Stmt, Directive, Block, VariableDeclaration, Empty, Expression, If, While, Continue, Break, Return, Throw, Stmts, no_stmt, more_stmt, MaybeStmt, none_stmt, some_stmt}
 use Rattle.js_tree.specs.Plain.{Declarator, MakeDeclarator, Declarators, no_declarator, more_declarator, Pattern, BindingIdentifier, MaybeExpr, none_expr, some_expr, MakeFile}
 use Rattle.js_tree.specs.declared.construct.Construct as C
 use Rattle.js_walk.specs.Constructs.{constructs_expr, constructs_stmt, constructs_declarator, counted, if_branch, bare_place}
@@ -22,12 +21,12 @@ use Rattle.js_value.specs.Environments.{Cell, lookup, value_of, assign_answer, A
 use Rattle.js_value.specs.declared.error_kind.ErrorKind.{ErrorKind}
 use Rattle.js_value.specs.declared.error_kind.ErrorKind.TheVariants.{TypeError, ReferenceError}
 use Rattle.js_value.specs.Realm.{undefined, global_environment}
-use Rattle.js_value.specs.Host.{Native, Answers, Throws, Refuses as RefusesKind, Writes, Calls, Requires, native_of, native_store}
+use Rattle.js_value.specs.Host.{Native, Answers, Throws, Refuses as RefusesKind, Writes, Calls, Requires, native_of}
 use Rattle.js_meaning.specs.declared.outcome.Completion.{Completion}
 use Rattle.js_meaning.specs.declared.outcome.Completion.TheVariants as completion
 use Rattle.js_meaning.specs.Marks.{Marks, Unmarked, Marked, after}
 use Rattle.js_meaning.specs.Effects as E
-use Rattle.js_meaning.specs.Effects.{Entry, Comp, ret, refuse, act, enter, handle}
+use Rattle.js_meaning.specs.Effects.{Entry, Comp, ret, enter, handle}
 use Rattle.js_meaning.specs.Program.{Source, Sources}
 use Rattle.js_meaning.specs.VarNames.{var_stmts}
 use Rattle.js_meaning.specs.Meaning as M

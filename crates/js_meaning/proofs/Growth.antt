@@ -1,8 +1,8 @@
 -- What is printed and entered stays: each form puts more after it.
-use Rattle.std.proofs.Common.{◌≡◌, ℕ, zero, suc, ◌+◌, Bool, true, false, List, [], ◌∷◌, ◌++◌, Option, Some, None, refl, sym, ap, subst, ◌∙◌, arith, if◌then◌else◌}
-use Rattle.js_value.specs.State.{Store, Binding}
+use Rattle.std.proofs.Common.{◌≡◌, ℕ, zero, suc, ◌+◌, List, [], ◌∷◌, ◌++◌, refl, sym, ap, subst, ◌∙◌, arith}
+use Rattle.js_value.specs.State.{Store}
 use Rattle.js_meaning.specs.declared.outcome.Completion.{Completion}
-use Rattle.js_meaning.specs.Effects.{Entry, Comp, ret, refuse, act, enter, handle, Ran, exec}
+use Rattle.js_meaning.specs.Effects.{Entry, Comp, ret, refuse, act, enter, handle, exec}
 use Rattle.js_meaning.specs.Laws.{Continues, Extends}
 
 append-nothing : {X : Type 0} (xs : List X) → xs ++ [] ≡ xs

@@ -3,8 +3,8 @@ use Rattle.std.proofs.Common.{◌≡◌, ℕ, zero, suc, ◌+◌, refl, sym, ap,
 use Rattle.std.proofs.Math.Path.{fun_ext}
 use Rattle.js_value.specs.State.{Store}
 use Rattle.js_meaning.specs.declared.outcome.Completion.{Completion}
-use Rattle.js_meaning.specs.Effects.{Entry, Comp, ret, refuse, act, enter, handle, Ran, exec}
-use Rattle.js_meaning.specs.Steps.{Result, then_go, eval, ran_by}
+use Rattle.js_meaning.specs.Effects.{Entry, Comp, ret, refuse, act, enter, handle, exec}
+use Rattle.js_meaning.specs.Steps.{then_go, eval, ran_by}
 use Rattle.js_meaning.specs.Laws.{IsOver}
 
 pub handle_again : (c : Comp) (j k : Completion → Comp) → handle (handle c j) k ≡ handle c (λ o. handle (j o) k)

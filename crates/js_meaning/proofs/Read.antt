@@ -1,6 +1,5 @@
 -- The forms, as one reads them.
-use Rattle.std.proofs.Common.{◌≡◌, ℕ, zero, suc, Bool, true, false, List, [], refl, sym, ap, ◌∙◌, if◌then◌else◌}
-use Rattle.std.proofs.Math.Path.{fun_ext}
+use Rattle.std.proofs.Common.{◌≡◌, ℕ, zero, suc, Bool, true, false, [], refl, ap, ◌∙◌, if◌then◌else◌}
 use Rattle.js_value.specs.declared.value.Value.{Value}
 use Rattle.js_value.specs.Operators.{to_boolean}
 use Rattle.js_value.specs.State.{Store}
@@ -9,7 +8,7 @@ use Rattle.js_meaning.specs.declared.outcome.Completion.TheVariants.{Normal, Bre
 use Rattle.js_walk.specs.Constructs.{constructs_expr}
 use Rattle.js_value.specs.Realm.{undefined}
 use Rattle.js_meaning.specs.Marks.{Unmarked, after}
-use Rattle.js_meaning.specs.Effects.{Entry, WhileTurn, Comp, ret, refuse, act, enter, handle}
+use Rattle.js_meaning.specs.Effects.{Entry, WhileTurn, Comp, ret, enter, handle}
 use Rattle.js_meaning.specs.Program.{Sources}
 use Rattle.js_meaning.specs.Meaning.{with_value, done, turn, loop, while_turn, after_turn, choose, comp_expr, comp_stmt, comp_stmt_if}
 use Rattle.js_meaning.specs.Files.{inside}

@@ -1,17 +1,17 @@
 -- The meaning of each tree that is read so far is said.
-use Rattle.std.proofs.Common.{◌≡◌, ℕ, Bool, true, false, ◌&&◌, List, refl, sym, ap, ◌∙◌}
+use Rattle.std.proofs.Common.{◌≡◌, Bool, true, ◌&&◌, List, refl, sym, ap, ◌∙◌}
 use Rattle.js_tree.specs.declared.place.Loc.{Loc}
 use Rattle.js_tree.specs.declared.operators.BinaryOperator.{BinaryOperator}
-use Rattle.js_tree.specs.Plain.{Expr, Exprs, Stmt, Stmts, Declarator, Declarators, IdentifierReference, MaybeStmt, File, MakeFile}
+use Rattle.js_tree.specs.Plain.{Expr, Exprs, Stmt, Stmts, Declarator, Declarators, IdentifierReference, File, MakeFile}
 use Rattle.js_tree.specs.Plain as P
 use Rattle.js_text.specs.Token.{Token}
 use Rattle.js_text.specs.declared.Punctuator.{Punctuator}
 use Rattle.js_text.specs.declared.Punctuator.TheVariants as punctuator
-use Rattle.js_text.specs.Reads.{without_comments, Reads}
+use Rattle.js_text.specs.Reads.{without_comments}
 use Rattle.js_text.specs.Grammar as G
 use Rattle.js_text.specs.Grammar.{SpellsExpr, SpellsArguments, SpellsDeclarator, SpellsDeclarators, SpellsStmt, SpellsStmts, SpellsBody, Sentence, Sign, is_target}
 use Rattle.js_value.specs.Operators.{has_answer}
-use Rattle.js_meaning.specs.Language.{is_said_expr, are_said_exprs, is_said_target, is_said_declarator, are_said_declarators, is_said_stmt, are_said_stmts, is_said_stmt_if, is_said_file, SaysAllThatIsRead}
+use Rattle.js_meaning.specs.Language.{is_said_expr, are_said_exprs, is_said_target, is_said_declarator, are_said_declarators, is_said_stmt, are_said_stmts, is_said_file, SaysAllThatIsRead}
 
 both : (a b : Bool) → a ≡ true → b ≡ true → (a && b) ≡ true
 both a b p q = ap (λ x. x && b) p ∙ q

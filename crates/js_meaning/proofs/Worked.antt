@@ -1,5 +1,5 @@
 -- The worked examples compute.
-use Rattle.std.proofs.Common.{◌≡◌, refl}
+use Rattle.std.proofs.Common.{refl}
 use Rattle.std.specs.Fmt.{digits}
 use Rattle.js_meaning.specs.Rows.{OneLine, ThreeTurns, Errors, Orders}
 

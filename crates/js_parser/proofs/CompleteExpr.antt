@@ -6,7 +6,7 @@ use Rattle.js_tree.specs.declared.place.Loc.{Loc}
 use Rattle.js_tree.specs.declared.operators.AssignmentOperator.TheVariants as assign
 use Rattle.js_tree.specs.declared.operators.BinaryOperator.{BinaryOperator}
 use Rattle.js_tree.specs.Plain.{Expr, Exprs, IdentifierReference, NullLiteral, BooleanLiteral, NumericLiteral, StringLiteral, Parenthesized, Call, Binary, Assignment, no_expr, push_exprs}
-use Rattle.js_text.specs.Token.{Token, Kind, Word, Numeral, End}
+use Rattle.js_text.specs.Token.{Token, Kind, Word, Numeral}
 use Rattle.js_text.specs.Token as T
 use Rattle.js_text.specs.declared.punctuator.Punctuator.{Punctuator}
 use Rattle.js_text.specs.declared.punctuator.Punctuator.TheVariants as P

@@ -10,7 +10,7 @@ use Rattle.js_text.specs.declared.word.ReservedWord.{ReservedWord}
 use Rattle.js_text.specs.Word.{reserved_word}
 use Rattle.js_text.specs.Level.{level}
 use Rattle.js_text.specs.Grammar
-use Rattle.js_text.specs.Grammar.{through, Is, IsWord, spelled, SpellsExpr, last_argument, SpellsDeclarator, SpellsDeclarators, one, SpellsStmt, is_string_statement, Sentence}
+use Rattle.js_text.specs.Grammar.{through, Is, IsWord, spelled, SpellsExpr, last_argument, SpellsDeclarator, SpellsDeclarators, one, is_string_statement, Sentence}
 use Rattle.js_text.specs.Begins.{SpellsDeclared, one_item, one_declared}
 use Rattle.js_parser.specs.private.Machine.{Test, OfIf, OfWhile, Frame, InBinary, InParentheses, InCall, InAssignment, InExpression, InTest, InInitializer, After, Finished, Config, at, join, strength, need, in_prologue, statement_of, declarator_of, plain_declarator_of, shift, have, name_class, want_name, have_name_kind, want_open, step, then_run, run, start}
 use Rattle.js_parser.proofs.Words.{fits_as}

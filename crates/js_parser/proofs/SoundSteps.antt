@@ -15,7 +15,7 @@ use Rattle.js_text.specs.declared.word.ReservedWord.TheVariants as reserved
 use Rattle.js_text.specs.Word.{reserved_word}
 use Rattle.js_text.specs.Level.{level}
 use Rattle.js_text.specs.Grammar
-use Rattle.js_text.specs.Grammar.{through, Is, IsWord, spelled, Sign, plus, minus, less, is_plain_numeral, is_target, SpellsExpr, no_argument, last_argument, SpellsStmt, is_string_statement, Sentence}
+use Rattle.js_text.specs.Grammar.{through, Is, IsWord, Sign, plus, minus, less, is_plain_numeral, is_target, SpellsExpr, no_argument, SpellsStmt}
 use Rattle.js_text.specs.Begins.{no_item, no_declared}
 use Rattle.js_parser.specs.private.Machine.{Test, OfIf, OfWhile, Frame, InParentheses, InCall, InAssignment, InExpression, InTest, InInitializer, InElse, Want, Have, Begin, After, WantName, Config, at, Join, ByOperator, ByCall, ByAssignment, Apart, join, strength, wants, need, word_operand, have_if, want, close_call, begin, begin_word, close_block, close_file, is_else, after, in_prologue, statement_of, declarator_of, declared, test_frame, joined, shift, grown, close, close_kind, or_close, have}
 use Rattle.js_parser.proofs.Words.{fits_as}

@@ -4,7 +4,7 @@ use Rattle.std.proofs.lemmas.Bool.{true≢false}
 use Rattle.js_tree.specs.declared.place.Loc.{Loc}
 use Rattle.js_tree.specs.declared.operators.BinaryOperator.{BinaryOperator}
 use Rattle.js_tree.specs.Plain.{Expr, Exprs, more_expr, Stmt, Stmts, Directive, no_stmt, more_stmt, push_stmts, Declarators, more_declarator, MakeFile}
-use Rattle.js_text.specs.Token.{Token, Kind, Word}
+use Rattle.js_text.specs.Token.{Token}
 use Rattle.js_text.specs.Token as T
 use Rattle.js_text.specs.declared.punctuator.Punctuator.{Punctuator}
 use Rattle.js_text.specs.declared.punctuator.Punctuator.TheVariants as P

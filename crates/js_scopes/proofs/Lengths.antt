@@ -1,5 +1,5 @@
 -- Texts of different lengths are different.
-use Rattle.std.proofs.Common.{◌≡◌, ℕ, List, Bool, true, false, length, refl, sym, ap}
+use Rattle.std.proofs.Common.{◌≡◌, ℕ, List, Bool, true, false, length, refl, ap}
 use Rattle.std.specs.Str.{bytes_eq}
 use Rattle.std.proofs.lemmas.Slice.Eq.{bytes_eq-Decides}
 

@@ -1,5 +1,5 @@
 -- Comments (ECMA-262, 12.4 and 12.5). What follows one is told; no line terminator belongs to a comment of one line.
-use Rattle.std.specs.Prelude.{ℕ, ◌==◌, Bool, true, false, ◌&&◌, List, [], ◌∷◌, drop, Option, Some, None, if◌then◌else◌}
+use Rattle.std.specs.Prelude.{ℕ, ◌==◌, Bool, false, ◌&&◌, List, [], ◌∷◌, drop, Option, Some, None, if◌then◌else◌}
 use Rattle.js_text.specs.Position.{is_line_terminator}
 use Rattle.js_text.specs.Character.{begins_with_character}
 

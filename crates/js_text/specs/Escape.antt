@@ -1,5 +1,5 @@
 -- The escapes of identifiers, strings and templates (ECMA-262, 12.7, 12.9.4, 12.9.6), from after the backslash.
-use Rattle.std.specs.Prelude.{ℕ, ◌+◌, ◌*◌, ◌==◌, nat_le, Bool, not, ◌&&◌, List, [], ◌∷◌, drop, Option, Some, None, if◌then◌else◌}
+use Rattle.std.specs.Prelude.{ℕ, ◌+◌, ◌*◌, ◌==◌, nat_le, not, ◌&&◌, List, [], ◌∷◌, drop, Option, Some, None, if◌then◌else◌}
 use Rattle.std.specs.Char as char
 use Rattle.js_text.specs.Position.{is_line_terminator, begins_with_line_feed}
 use Rattle.js_text.specs.Character.{is_digit, begins_with_digit, begins_with_character}

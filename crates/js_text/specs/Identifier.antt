@@ -1,5 +1,5 @@
 -- Identifiers, with escapes (ECMA-262, 12.7).
-use Rattle.std.specs.Prelude.{ℕ, zero, suc, ◌-◌, ◌==◌, Bool, ◌&&◌, List, [], ◌∷◌, ◌++◌, length, Option, Some, None, if◌then◌else◌}
+use Rattle.std.specs.Prelude.{ℕ, zero, suc, ◌-◌, ◌==◌, Bool, false, ◌&&◌, ◌||◌, List, [], ◌∷◌, length, Option, Some, None, is_some, if◌then◌else◌}
 use Rattle.std.specs.List.{list_any}
 use Rattle.std.specs.Str.{all_scalars}
 use Rattle.js_text.specs.Character.{starts_identifier, continues_identifier}
@@ -15,21 +15,29 @@ is_backslash c = c == 0x5C
 abbrev pub escape_of : (ℕ → Bool) → List ℕ → Option (List ℕ)
 escape_of test cs = with_found (identifier_escape cs) (λ found. if all_scalars (found.0 ∷ []) && test found.0 then Some found.1 else None) None
 
--- what follows the characters with which an identifier goes on here, after this many characters of an escape; none where
--- a backslash begins no escape of such a character
-abbrev pub identifier_rest : ℕ → List ℕ → Option (List ℕ)
-identifier_rest n [] = Some []
+-- what follows the backslash and the escape here, if that stands for a character that passes a test
+abbrev pub escaped_rest : (ℕ → Bool) → List ℕ → Option (List ℕ)
+escaped_rest test [] = None
+escaped_rest test (c ∷ cs) = if is_backslash c then escape_of test cs else None
+
+-- an identifier starts here
+abbrev pub begins_identifier : List ℕ → Bool
+begins_identifier [] = false
+begins_identifier (c ∷ cs) = starts_identifier c || is_some (escaped_rest starts_identifier (c ∷ cs))
+
+-- what follows the characters with which an identifier goes on here, after this many characters of an escape
+abbrev pub identifier_rest : ℕ → List ℕ → List ℕ
+identifier_rest n [] = []
 identifier_rest (suc n) (c ∷ cs) = identifier_rest n cs
 identifier_rest zero (c ∷ cs) =
     if continues_identifier c then identifier_rest zero cs
-    else (if is_backslash c then with_found (escape_of continues_identifier cs) (λ rest. identifier_rest (length cs - length rest) cs) None
-    else Some (c ∷ cs))
+    else with_found (escaped_rest continues_identifier (c ∷ cs)) (λ rest. identifier_rest (length cs - length rest) cs) (c ∷ cs)
 
--- what follows an identifier after its first character
+-- what follows an identifier after its first character; none where that is a backslash that begins no escape of one
 abbrev pub after_first : ℕ → List ℕ → Option (List ℕ)
 after_first c cs =
-    if is_backslash c then with_found (escape_of starts_identifier cs) (λ rest. identifier_rest zero rest) None
-    else identifier_rest zero cs
+    if is_backslash c then with_found (escape_of starts_identifier cs) (λ rest. Some (identifier_rest zero rest)) None
+    else Some (identifier_rest zero cs)
 
 -- an identifier without escapes, or with one: that is never a reserved word, but may be a property's name
 abbrev pub word_of_bytes : List ℕ → Kind

@@ -1,7 +1,8 @@
 -- Numeric literals (ECMA-262, 12.9.3).
 use Rattle.std.specs.Prelude.{ℕ, ◌==◌, Bool, true, false, not, ◌&&◌, ◌||◌, List, [], ◌∷◌, drop, Option, Some, None, if◌then◌else◌}
 use Rattle.std.specs.Char as char
-use Rattle.js_text.specs.Character.{starts_identifier, is_digit, begins_with_character}
+use Rattle.js_text.specs.Character.{begins_with_digit, begins_with_character}
+use Rattle.js_text.specs.Identifier.{begins_identifier}
 
 -- a digit of this base
 abbrev pub is_digit_of : ℕ → ℕ → Bool
@@ -55,10 +56,9 @@ exponent_rest [] = []
 exponent_rest (c ∷ cs) =
     if ((c == 0x65) || (c == 0x45)) && begins_with_digit_of 10 (after_sign cs) then more_digits 10 (after_sign cs) else c ∷ cs
 
--- a number may end before these characters: no identifier begins there, and no digit
+-- a number may end before these characters: no identifier starts there, and no digit
 abbrev pub ends_number : List ℕ → Bool
-ends_number [] = true
-ends_number (c ∷ cs) = not (starts_identifier c || is_digit c || (c == 0x5C))
+ends_number cs = not (begins_identifier cs || begins_with_digit cs)
 
 -- whether it is a BigInt, and what follows a number that may end there
 abbrev pub ended : Bool → List ℕ → Option (Bool × List ℕ)

@@ -1,5 +1,5 @@
 // Calls of the program's top call over memory.
-use crate::spelled::{bytes_of, push_lines, text_of};
+use crate::spelled::{bytes_of, push_lines, push_number, text_of};
 use crate::wanting::{WantingSink, WantingStore};
 use cov_base::{Memory, MemorySink, MemoryStore, Store, SureSink, SureStore};
 use cov_tool::{Status, cov};
@@ -123,7 +123,7 @@ impl Setting {
     pub(crate) fn call(&self, alloc: Global, words: &str, page: &mut String) -> Result<(), Memory> {
         let words = words_of(alloc, words)?;
         if self.store.are_none() && self.out.are_none() && self.err.are_none() {
-            self.call_surely(alloc, words.as_slice(), page)
+            self.call_surely(alloc, words.as_slice(), None, page)
         } else {
             self.call_failing(alloc, words.as_slice(), page)
         }
@@ -140,14 +140,7 @@ impl Setting {
             return Ok(false);
         };
         let words = words_of(alloc, words)?;
-        let mut store = SureStore::new(alloc, self.held(alloc)?)?;
-        let mut out = SureSink::new(alloc)?;
-        let mut err = SureSink::new(alloc)?;
-        let status = cov(alloc, words.as_slice(), &mut store, &mut out, &mut err);
-        push_answer(alloc, out.taken(), err.taken(), status, page)?;
-        if let Ok(Some(bytes)) = store.read(path) {
-            push_lines(page, "+", bytes.as_slice())?;
-        }
+        self.call_surely(alloc, words.as_slice(), Some(path), page)?;
         Ok(true)
     }
 
@@ -155,13 +148,18 @@ impl Setting {
         &self,
         alloc: Global,
         words: &[String],
+        path: Option<&str>,
         page: &mut String,
     ) -> Result<(), Memory> {
         let mut store = SureStore::new(alloc, self.held(alloc)?)?;
         let mut out = SureSink::new(alloc)?;
         let mut err = SureSink::new(alloc)?;
         let status = cov(alloc, words, &mut store, &mut out, &mut err);
-        push_answer(alloc, out.taken(), err.taken(), status, page)
+        push_answer(alloc, out.taken(), err.taken(), status, page)?;
+        match path {
+            Some(path) => push_held(&mut store, path, page),
+            None => Ok(()),
+        }
     }
 
     fn call_failing(
@@ -199,8 +197,17 @@ fn push_answer(
 ) -> Result<(), Memory> {
     push_lines(page, ">", out)?;
     push_lines(page, "!", err)?;
-    let number = status.code();
-    page.push_str(format!(in alloc; "= {number}\n")?.as_str())
+    page.push_str("= ")?;
+    push_number(alloc, status.code() as u64, page)?;
+    page.push_str("\n")
+}
+
+/// The lines that the store holds at a path, if it holds a file there.
+fn push_held(store: &mut SureStore, path: &str, page: &mut String) -> Result<(), Memory> {
+    match store.read(path) {
+        Ok(Some(bytes)) => push_lines(page, "+", bytes.as_slice()),
+        Ok(None) | Err(_) => Ok(()),
+    }
 }
 
 /// Who is called, and the number of the call.

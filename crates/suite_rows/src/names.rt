@@ -1,5 +1,6 @@
 // The names that a text writes, what it asks for, and the names that it may not have.
 use crate::place::read;
+use crate::spelled::push_number;
 use cov_base::Memory;
 use items::Text;
 use js_scopes::{Checked, ScopeFault, check};
@@ -14,8 +15,11 @@ pub(crate) fn names_of(alloc: Global, bytes: Vec<u8>) -> Result<String, Memory> 
     match check(alloc, file) {
         Ok(checked) => both(alloc, &checked),
         Err((_, ScopeFault { at, kind: _ })) => {
-            let (line, column) = (at.line, at.column);
-            format!(in alloc; "reserved at {line}:{column}")
+            let mut page = String::from_str(alloc, "reserved at ")?;
+            push_number(alloc, at.line as u64, &mut page)?;
+            page.push_str(":")?;
+            push_number(alloc, at.column as u64, &mut page)?;
+            Ok(page)
         }
     }
 }

@@ -1,4 +1,5 @@
 // The tree that bytes are read to, or where and why they are refused.
+use crate::spelled::push_number;
 use cov_base::Memory;
 use js_parser::{Refusal, Refused, parse};
 use js_text::{Limits, Text};
@@ -13,8 +14,10 @@ pub(crate) fn read(alloc: Global, bytes: Vec<u8>) -> Result<Result<File, String>
     match parse(alloc, &text, Limits::source()) {
         Ok(file) => Ok(Ok(file)),
         Err(Refused { at, why }) => {
-            let why = why_of(why);
-            Ok(Err(format!(in alloc; "{why} at byte {at}")?))
+            let mut page = String::from_str(alloc, why_of(why))?;
+            page.push_str(" at byte ")?;
+            push_number(alloc, at as u64, &mut page)?;
+            Ok(Err(page))
         }
     }
 }

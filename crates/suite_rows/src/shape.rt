@@ -1,6 +1,6 @@
 // How high the tree of a text is, and which texts are read to the same.
 use crate::place::read;
-use crate::spelled::bytes_of;
+use crate::spelled::{bytes_of, push_number};
 use cov_base::Memory;
 use js_height::height;
 use js_same::same;
@@ -11,8 +11,9 @@ use std::alloc::Global;
 pub(crate) fn height_of(alloc: Global, bytes: Vec<u8>) -> Result<String, Memory> {
     match read(alloc, bytes)? {
         Ok(file) => {
-            let levels = height(&file);
-            format!(in alloc; "{levels}")
+            let mut page = String::new(alloc);
+            push_number(alloc, height(&file), &mut page)?;
+            Ok(page)
         }
         Err(refused) => Ok(refused),
     }

@@ -16,6 +16,11 @@ pub(crate) fn text_of(alloc: Global, field: &str) -> Result<String, Memory> {
     String::from_utf8_lossy(alloc, bytes.as_slice())
 }
 
+/// Writes a number in decimal: the one place where numbers are written, since each costs the prover much.
+pub(crate) fn push_number(alloc: Global, number: u64, page: &mut String) -> Result<(), Memory> {
+    page.push_str(format!(in alloc; "{number}")?.as_str())
+}
+
 /// Writes the lines of the bytes, each behind a mark, and tells where the last line isn't ended.
 pub(crate) fn push_lines(page: &mut String, mark: &str, bytes: &[u8]) -> Result<(), Memory> {
     if bytes.is_empty() {

@@ -1,5 +1,5 @@
-//! The tests of what no contract and no row says: of the edge to the host, of calls that the program doesn't make so far,
-//! and that each call of the lowest crates succeeds.
+//! The tests of what no contract and no row says: of the edge to the host, of a machine that is run in parts, and of the
+//! loop that writes whole texts.
 #![tactic(auto)]
 
 #[cfg(test)]
@@ -10,7 +10,3 @@ mod reads;
 mod runs;
 #[cfg(test)]
 mod sinks;
-#[cfg(test)]
-mod stores;
-#[cfg(test)]
-mod trees;

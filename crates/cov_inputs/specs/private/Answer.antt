@@ -1,5 +1,5 @@
 -- What one step answers.
-use Rattle.std.specs.Prelude.{◌≡◌, ℕ, List, Option, Some, None, IfSome, Result, Ok, Err}
+use Rattle.std.specs.Prelude.{◌≡◌, ℕ, List, Option, IfSome, Result, Ok, Err}
 use Rattle.cov_base.specs.Store.{Held}
 use Rattle.cov_object.specs.declared.file.FileCoverage.{FileCoverage}
 use Rattle.cov_inputs.specs.Inputs.{Sums, with_input}

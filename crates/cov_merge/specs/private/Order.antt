@@ -1,5 +1,4 @@
 -- An order of places and keys, for private clauses: it tells apart what has not the same key.
-use Rattle.std.specs.Prelude.{nat_eq}
 use Rattle.std.specs.Ordering.{nat_cmp, ordering_then}
 use Rattle.std.specs.Option.{option_cmp}
 use Rattle.std.specs.Cmp.Lexicographic.{slice_cmp}

@@ -52,7 +52,7 @@ option_tells R E h None (Some y) = refl
 option_tells R E h (Some x) None = refl
 option_tells R E h (Some x) (Some y) = h x y
 
-list_tells : {X : Type 0} (R : X → X → Ordering) (E : X → X → Bool) → ((x y : X) → is_eq (R x y) ≡ E x y) → (a b : List X) → is_eq (slice_cmp R a b) ≡ pointwise E a b
+pub list_tells : {X : Type 0} (R : X → X → Ordering) (E : X → X → Bool) → ((x y : X) → is_eq (R x y) ≡ E x y) → (a b : List X) → is_eq (slice_cmp R a b) ≡ pointwise E a b
 list_tells R E h [] [] = refl
 list_tells R E h [] (y ∷ ys) = refl
 list_tells R E h (x ∷ xs) [] = refl

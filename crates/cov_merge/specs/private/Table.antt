@@ -3,22 +3,14 @@ use Rattle.std.specs.Prelude.{◌≡◌, ℕ, ◌+◌, Bool, cond, List, [], ◌
 use Rattle.std.specs.Option.{option_map}
 use Rattle.std.specs.BTreeMap.{BTreeMap, get_by}
 use Rattle.std.specs.declared.cmp.Ordering.{Ordering}
-use Rattle.cov_merge.specs.declared.sums.Exact.{Exact}
-use Rattle.cov_merge.specs.declared.sums.Exact.TheVariants.{Counts, TooLarge}
 use Rattle.cov_merge.specs.declared.tally.Tally.{Tally}
 use Rattle.cov_merge.specs.declared.by_key.ByKey.{ByKey}
 use Rattle.cov_merge.specs.Kind.{Kind}
 use Rattle.cov_merge.specs.Sums.{plus}
-use Rattle.cov_merge.specs.Entries.{too_large}
-
--- what sums are as counts
-abbrev pub IsExactly : List ℕ → Exact → Type 0
-IsExactly sums (Counts counts) = (too_large 0 sums ≡ None) × (counts ≡ sums)
-IsExactly sums (TooLarge place sum) = too_large 0 sums ≡ Some (place, sum)
 
 -- the entries themselves, each beside its sums
 abbrev pub tallies_of : {T : Type 0} → List (Tally T) → List (T × List ℕ)
-tallies_of tallies = map (λ tally. (tally.entry.now, tally.sums)) tallies
+tallies_of tallies = map (λ tally. (tally.entry.now, tally.sums.items)) tallies
 
 -- the place of the first one that passes
 abbrev pub place_of : {X : Type 0} → (X → Bool) → List X → Option ℕ

@@ -1,5 +1,5 @@
 -- What the steps of a command on coverage files give.
-use Rattle.std.specs.Prelude.{◌≡◌, ℕ, ◌≤◌, List, Option, Some, None, Result, OnOk, Vec}
+use Rattle.std.specs.Prelude.{◌≡◌, ℕ, ◌≤◌, List, Option, Some, Result, OnOk, Vec}
 use Rattle.std.specs.declared.alloc.Global.{Global}
 use Rattle.cov_base.specs.Store.{Held, BothTell, KeepsOthers}
 use Rattle.cov_base.specs.Sink.{after_more}

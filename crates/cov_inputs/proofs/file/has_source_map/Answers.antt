@@ -1,5 +1,5 @@
 -- All files have come.
-use Rattle.std.proofs.Common.{◌∙◌, map, ap}
+use Rattle.std.proofs.Common.{◌∙◌, ap}
 use Rattle.std.specs.List.{list_any}
 use Rattle.std.proofs.lemmas.Iterator.Consumers.{YieldsList-from_rest, YieldsList-end}
 use Rattle.cov_inputs.specs.Inputs.{has_source_map}

@@ -1,11 +1,10 @@
 -- Each file is the next of those that are named.
-use Rattle.std.proofs.Common.{◌≡◌, ◌∙◌, ◌++◌, ◌∷◌, [], ◌+◌, ℕ, List, get_or, take, drop, refl, sym, ap, subst, arith, take-append-drop}
+use Rattle.std.proofs.Common.{◌≡◌, ◌∙◌, ◌++◌, ◌∷◌, [], ◌+◌, get_or, take, drop, sym, ap, subst, arith, take-append-drop}
 use Rattle.std.specs.Prelude.{Ok, Err}
 use Rattle.std.proofs.lemmas.List.{at_drop_more, take_more}
 use Rattle.cov_inputs.specs.Inputs.{HaveSums, IsCause}
 use Rattle.cov_inputs.specs.private.Answer.{AnswersAt}
 use Rattle.cov_inputs.proofs.Steps.{goes_on, stops}
-use Rattle.cov_inputs.proofs.gather.gathered.Given.{Over}
 use Rattle.cov_inputs.proofs.gather.gathered.Goals as goal
 
 pub returns-in-Err-clause-fault : goal.returns-in-Err-clause-fault

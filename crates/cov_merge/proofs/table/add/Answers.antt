@@ -1,9 +1,6 @@
-use Rattle.std.proofs.Common.{◌≡◌, ◌<◌, ℕ, Bor, List, [], ◌∷◌, ◌++◌, Option, Some, None, cond, length, sym, ap, ◌∙◌, arith, rules}
+use Rattle.std.proofs.Common.{◌≡◌, ◌<◌, [], ◌∷◌, ◌++◌, Some, None, cond, length, sym, ap, ◌∙◌, arith, rules}
 use Rattle.std.specs.Ordering.{is_eq}
-use Rattle.std.proofs.lemmas.Result.{on_ok_weaker}
-use Rattle.cov_merge.specs.declared.by_key.ByKey.{ByKey}
-use Rattle.cov_merge.specs.Sums.{added}
-use Rattle.cov_merge.specs.private.Table.{tallies_of, place_of, added_at}
+use Rattle.cov_merge.specs.private.Table.{tallies_of, place_of}
 use Rattle.cov_merge.proofs.Places.{place-bound, place-added_at, place-new, added-new, added-found, length-tallies_of, tallies_of-more}
 use Rattle.cov_merge.proofs.table.add.Goals as goal
 
@@ -18,13 +15,12 @@ add_at-requires g c =
     omega arith
 
 pub returns-in-Some-clause-found : goal.returns-in-Some-clause-found
-returns-in-Some-clause-found g c =
+returns-in-Some-clause-found g c key =
     let kind = g.T.Counted.kind in
     let tallies = tallies_of c.args.tallies.now.items in
-    on_ok_weaker c.add_at.result (λ e key.
     c.requires key
-    ∙ sym (place-added_at kind key.0.now tallies c.in-Some.place c.as_slice.result.now)
-    ∙ ap (place_of (λ tally. kind.same tally.0 key.0.now)) (sym e)) c.add_at.ensures
+    ∙ sym (place-added_at kind key.0.now tallies c.in-Some.place (kind.counts c.args.entry.now))
+    ∙ ap (place_of (λ tally. kind.same tally.0 key.0.now)) (sym c.add_at.ensures)
 
 pub returns-in-Some-clause-added : goal.returns-in-Some-clause-added
 returns-in-Some-clause-added g c =
@@ -33,25 +29,22 @@ returns-in-Some-clause-added g c =
     let tallies = tallies_of c.args.tallies.now.items in
     let found : place_of (λ tally. kind.same tally.0 entry) tallies ≡ Some c.in-Some.place =
     sym (c.requires (record { 0 = c.args.entry })) ∙ sym c.get.ensures.value ∙ sym c.copied.ensures ∙ c.in-Some.is in
-    let counts : c.as_slice.result.now ≡ kind.counts entry = c.as_slice.ensures ∙ c.in_ok-counts.ensures in
-    on_ok_weaker c.add_at.result (λ e.
-    e ∙ ap (λ counts. added_at c.in-Some.place counts tallies) counts ∙ sym (added-found kind entry tallies c.in-Some.place found)) c.add_at.ensures
+    c.add_at.ensures ∙ sym (added-found kind entry tallies c.in-Some.place found)
 
-pub returns-clause-added : goal.returns-clause-added
-returns-clause-added g c =
+pub returns-in_ok-push-in-None-clause-added : goal.returns-in_ok-push-in-None-clause-added
+returns-in_ok-push-in-None-clause-added g c =
     let kind = g.T.Counted.kind in
     let entry = c.args.entry.now in
     let tallies = tallies_of c.args.tallies.now.items in
     let none : place_of (λ tally. kind.same tally.0 entry) tallies ≡ None =
     sym (c.requires (record { 0 = c.args.entry })) ∙ sym c.get.ensures.value ∙ sym c.copied.ensures ∙ c.in-None.is in
-    let sums : c.in_ok-sums-in-None.sums ≡ kind.counts entry = c.in_ok-sums-in-None.ensures ∙ c.as_slice-in-None.ensures ∙ c.in_ok-counts.ensures in
     ap tallies_of c.in_ok-push-in-None.ensures.items
     ∙ tallies_of-more c.args.tallies.now.items (record { entry = c.args.entry; sums = c.in_ok-sums-in-None.sums })
-    ∙ ap (λ counts. tallies ++ (entry, counts) ∷ []) sums
+    ∙ ap (λ counts. tallies ++ (entry, counts) ∷ []) c.in_ok-sums-in-None.ensures
     ∙ sym (added-new kind entry tallies none)
 
-pub returns-clause-found : goal.returns-clause-found
-returns-clause-found g c key =
+pub returns-in_ok-push-in-None-clause-found : goal.returns-in_ok-push-in-None-clause-found
+returns-in_ok-push-in-None-clause-found g c key =
     let kind = g.T.Counted.kind in
     let order = g.T.Counted.order in
     let entry = c.args.entry.now in
@@ -64,6 +57,6 @@ returns-clause-found g c key =
     c.in_ok-insert-in-None.ensures.updates.0 key
     ∙ ap (λ old. cond (is_eq (order entry key.0.now)) (Some c.len-place.result) old) (c.requires key)
     ∙ ap (λ n. cond (is_eq (order entry key.0.now)) (Some n) (place_of (λ tally. kind.same tally.0 key.0.now) tallies)) place
-    ∙ place-new kind order g.met.T.Counted.total g.met.T.Counted.tells tallies entry key.0.now sums none
+    ∙ place-new kind order g.met.T.Counted.total g.met.T.Counted.tells tallies entry key.0.now sums.items none
     ∙ ap (place_of (λ tally. kind.same tally.0 key.0.now))
     (sym (ap tallies_of c.in_ok-push-in-None.ensures.items ∙ tallies_of-more c.args.tallies.now.items (record { entry = c.args.entry; sums = sums })))

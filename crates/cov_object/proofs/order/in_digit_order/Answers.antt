@@ -10,7 +10,7 @@ loop-id-preserved g c =
     let thing = c.loop-id-item.result in
     let rest = drop (c.loop-id.id-index + 1) c.args.things.now in
     let before = by_bytes c.loop-id.sorted.entries in
-    ap (λ sorted. fold put_in sorted rest) (put_in-more c.loop-id.sorted.entries c.insert.new.self.entries c.in_ok-format.field-0 _ thing.0 thing.1 c.in_ok-format.ensures.ok refl c.in_ok-insert.ensures.entries)
+    ap (λ sorted. fold put_in sorted rest) (put_in-more c.loop-id.sorted.entries c.insert.new.self.entries c.in_ok-digits.field-0 _ thing.0 thing.1 c.in_ok-digits.ensures refl c.in_ok-insert.ensures.entries)
     ∙ ap (λ first. fold put_in before (first ∷ rest)) c.loop-id-item.is
     ∙ sym (at_drop_more (fold put_in before) c.args.things.now c.loop-id.id-index thing c.loop-id-test.true)
     ∙ c.loop-id.invariant

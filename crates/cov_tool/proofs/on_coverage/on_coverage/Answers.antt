@@ -1,5 +1,5 @@
 -- Each clause from what the files come to and from the complaint.
-use Rattle.std.proofs.Common.{rules, ◌≡◌, ◌≢◌, [], Some, refl, sym, ap, subst, ◌∙◌}
+use Rattle.std.proofs.Common.{rules, ◌≢◌, [], Some, refl, sym, subst}
 use Rattle.cov_words.specs.declared.command.Command.TheVariants.{OnCoverage}
 use Rattle.cov_tool.specs.Line as said
 use Rattle.cov_tool.proofs.Stands.{IsSaid, complained, says_at_most}

@@ -1,8 +1,8 @@
 -- Each clause from what was found and from the complaint.
-use Rattle.std.proofs.Common.{Some, ap}
+use Rattle.std.proofs.Common.{Some}
 use Rattle.cov_words.specs.declared.command.Command.TheVariants.{OnSource}
 use Rattle.cov_tool.specs.Line.{message_of}
-use Rattle.cov_tool.proofs.Stands.{Stands, IsSaid, complained, says_lines, says_at_most}
+use Rattle.cov_tool.proofs.Stands.{IsSaid, complained, says_lines, says_at_most}
 use Rattle.cov_tool.proofs.Due.{fault_is_said, end_is_said, is_done, prints_some, prints_prefix, done_prints, end_prints}
 use Rattle.cov_tool.proofs.on_source.on_source.Given.{Over}
 use Rattle.cov_tool.proofs.on_source.on_source.Goals as goal

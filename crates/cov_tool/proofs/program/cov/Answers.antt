@@ -1,10 +1,9 @@
 -- Each clause from what the words ask.
-use Rattle.std.proofs.Common.{rules, ◌≡◌, Global, Some, None, map, string_bytes, refl, sym, subst}
+use Rattle.std.proofs.Common.{rules, ◌≡◌, Global, Some, None, map, string_bytes, refl, subst}
 use Rattle.cov_words.specs.Words as asked
 use Rattle.cov_words.specs.declared.command.Command.TheVariants.{OnSource, OnCoverage}
 use Rattle.cov_tool.specs.Program.{PrintsPrefix, SaysAtMost, SaysLines}
 use Rattle.cov_tool.proofs.Stands.{complained, memory_is_said, usage_is_said, says_at_most, prints_nothing, stores_nothing, counts_no_puts}
-use Rattle.cov_tool.proofs.program.cov.Given.{Over}
 use Rattle.cov_tool.proofs.program.cov.Goals as goal
 
 -- ---- no memory for the words

@@ -1,5 +1,5 @@
 -- What clap answers is what its definitions say of the forms.
-use Rattle.std.proofs.Common.{◌∙◌, map, string_bytes, Global, ap, sym}
+use Rattle.std.proofs.Common.{◌∙◌, map, string_bytes, Global}
 use Rattle.clap.specs.Words.{app_of}
 use Rattle.cov_words.proofs.WordsLemmas.{matched, unmatched}
 use Rattle.cov_words.proofs.words.matches_of.Goals as goal
