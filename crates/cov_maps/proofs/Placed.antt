@@ -5,7 +5,8 @@ use Rattle.js_tree.specs.declared.place.Loc.{Loc}
 use Rattle.js_tree.specs.Plain.{Expr, Exprs, Stmt, Stmts, Declarator, Declarators, File, MakeFile}
 use Rattle.js_tree.specs.declared.construct.Construct.{Construct}
 use Rattle.js_tree.specs.declared.construct.Construct.TheVariants as construct
-use Rattle.js_walk.specs.Constructs.{bare_place, stmt_place, counted, own_construct, chained_in, constructs_expr, constructs_stmt, constructs_declarator, constructs_file, all_named}
+use Rattle.js_tree.specs.Places.{bare_place, stmt_place}
+use Rattle.js_walk.specs.Constructs.{counted, own_construct, chained_in, constructs_expr, constructs_stmt, constructs_declarator, constructs_file, all_named}
 use Rattle.js_walk.specs.Walk.{within_exprs, within_declarators, within_stmts, walk_file}
 use Rattle.js_text.specs.Place.{Place}
 use Rattle.js_text.specs.Position.{position_of}

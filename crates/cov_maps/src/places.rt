@@ -1,6 +1,6 @@
 ghost use Rattle.std.specs.Prelude.{◌≡◌, [], ◌∷◌, ◌++◌, IfOk};
 ghost use Rattle.js_tree.specs.Tree.{plain_case, plain_cases, plain_concise_body, plain_expr, plain_function, plain_function_body, plain_stmt, plain_stmt_if};
-ghost use Rattle.js_walk.specs.Constructs.{bare_place, body_place, braced_place, case_place, case_places, concise_place, leaf_places, stmt_if_place, stmt_place};
+ghost use Rattle.js_tree.specs.Places.{bare_place, body_place, braced_place, case_place, case_places, concise_place, leaf_places, stmt_if_place, stmt_place};
 
 use items::{Boxed, Items, Memory};
 use js_tree::{Case, ConciseBody, Expr, ExprNode, Function, FunctionBody, Loc, Stmt};

@@ -1,9 +1,14 @@
 -- The plain tree at each place of a program's code.
 use Rattle.std.specs.Prelude.{◌≡◌, ℕ, zero, suc, ◌<◌, List, ◌++◌, length, Option, Some, None, slice_get}
 use Rattle.js_tree.specs.Plain as P
+use Rattle.js_tree.specs.Linked.{Numbers, Unmarked, link_stmts}
 use Rattle.js_code.specs.declared.node.Node.{Node}
 use Rattle.js_code.specs.declared.node.Node.TheVariants.{NoStatement}
 use Rattle.js_code.specs.Node.{Reader, other_expr, other_stmt, build_expr, build_exprs, build_stmt, build_stmts, build_declarators, expr_if, stmt_if, IsBelow, PartsBelow}
+
+-- statements with the numbers of their functions, from the next one on
+abbrev pub numbered : P.Stmts → Numbers → P.Stmts
+numbered xs k = (link_stmts Unmarked xs k).tree
 
 -- past the end there is the end of a list
 abbrev pub node_or : Option Node → Node

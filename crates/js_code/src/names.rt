@@ -1,5 +1,7 @@
 ghost use Rattle.std.specs.Prelude.{◌≡◌, ◌∷◌, [], ◌++◌, ℕ, Bool, List, Some, codes, true, false, IfOk};
 ghost use Rattle.js_tree.specs.Tree.{plain_file, plain_for_init, plain_for_target, plain_pattern, plain_stmt, plain_stmts};
+ghost use Rattle.js_tree.specs.Linked.{Numbers};
+ghost use Rattle.js_code.specs.Code.{numbered};
 ghost use Rattle.js_meaning.specs.Files.{once};
 ghost use Rattle.js_meaning.specs.Language.{is_said_file};
 ghost use Rattle.js_meaning.specs.VarNames.{declares, is_var, own_var, var_stmts};
@@ -14,9 +16,10 @@ use std::alloc::Global;
 
 /// The names that a file of the small language declares by `var`, in the order of its text and each
 /// once, without `exports` and `module`, which every file has. Only want of memory is an error.
+#[tactic(auto, using(crate::proofs::SameNames::names_numbered))]
 pub fn file_names(alloc: Global, file: &File) -> Result<Items<Name>, Memory>
     requires said { is_said_file (plain_file file.now) ≡ true }
-    ensures { IfOk result (λ names. names ≡ once (codes "exports" ∷ codes "module" ∷ []) (var_stmts (plain_stmts file.now.body))) }
+    ensures { IfOk result (λ names. (k : Numbers) → names ≡ once (codes "exports" ∷ codes "module" ∷ []) (var_stmts (numbered (plain_stmts file.now.body) k))) }
 {
     let mut collector = Collector {
         alloc,

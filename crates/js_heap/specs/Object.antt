@@ -34,6 +34,7 @@ plain_object object = record {
   kind = plain_kind object.kind;
   prototype = option_map (λ prototype. prototype.index) object.prototype;
   frozen = object.frozen;
+  elements = object.elements.items.items;
   properties = map plain_property object.properties.items;
 }
 

@@ -2,6 +2,7 @@ ghost use Rattle.std.specs.Prelude.{map};
 ghost use Rattle.js_heap.specs.Object.{plain_object, PrototypesAreOlder};
 ghost use Rattle.js_heap.specs.Environment.{plain_environment, OutersAreOlder};
 
+use crate::elements::Elements;
 use crate::environment::{Binding, Environment};
 use crate::object::{ObjectRecord, Property};
 use crate::{Assign, Cell, Env, Flags, ObjectKind};
@@ -41,11 +42,12 @@ impl Heap {
     ghost use Rattle.js_value.specs.Environments.{environment_at, next_environment, new_environment, declare, lookup, binding_at, value_of, init, assign, assign_answer};
     ghost use Rattle.js_heap.specs.Object.{plain_kind, property_with};
     ghost use Rattle.js_heap.specs.Environment.{plain_binding, plain_cell, plain_assign};
-    ghost use Rattle.js_heap.specs.Heap.{store_of, empty_store, HoldsObject, HoldsEnvironment, HoldsCell, is_of_array};
+    ghost use Rattle.js_value.specs.Realm.{empty_heap};
+    ghost use Rattle.js_heap.specs.Heap.{heap_of, HoldsObject, HoldsEnvironment, HoldsCell, is_of_array};
 
     /// A heap of nothing, which takes no memory. What is made later is kept on the allocator.
     pub fn new(alloc: Global) -> Heap
-        ensures { store_of result ≡ empty_store }
+        ensures { heap_of result ≡ empty_heap }
     {
         Heap {
             alloc,
@@ -57,17 +59,18 @@ impl Heap {
     /// Makes an object that inherits from `prototype` and has no properties (ECMA-262, 10.1.12). On
     /// want of memory nothing changes.
     pub fn object(&mut self, kind: ObjectKind, prototype: Option<Object>) -> Result<Object, Memory>
-        requires { ForSome prototype (λ o. HoldsObject (store_of self.old) o.index) }
-        ensures ok { OnOk result (store_of self.new
-            ≡ new_object (plain_kind kind) (option_map (λ o. o.index) prototype) (store_of self.old)) }
-        ensures object { IfOk result (λ made. made.index ≡ next_object (store_of self.old)) }
-        ensures err { OnErr result (store_of self.new ≡ store_of self.old) }
+        requires { ForSome prototype (λ o. HoldsObject (heap_of self.old) o.index) }
+        ensures ok { OnOk result (heap_of self.new
+            ≡ new_object (plain_kind kind) (option_map (λ o. o.index) prototype) (heap_of self.old)) }
+        ensures object { IfOk result (λ made. made.index ≡ next_object (heap_of self.old)) }
+        ensures err { OnErr result (heap_of self.new ≡ heap_of self.old) }
     {
         let made = Object::at(self.objects.len() as u64);
         self.objects.push(ObjectRecord {
             kind,
             prototype,
             frozen: false,
+            elements: Elements::none(self.alloc),
             properties: Vec::new(self.alloc),
         })?;
         Ok(made)
@@ -82,11 +85,11 @@ impl Heap {
         value: Value,
         flags: Flags,
     ) -> Result<(), Memory>
-        requires object { HoldsObject (store_of self.old) object.index }
-        requires name { is_of_array (kind_of (store_of self.old) object.index) name.now ≡ false }
-        ensures ok { OnOk result (store_of self.new
-            ≡ define object.index (property_with name.now value flags) (store_of self.old)) }
-        ensures err { OnErr result (store_of self.new ≡ store_of self.old) }
+        requires object { HoldsObject (heap_of self.old) object.index }
+        requires name { is_of_array (kind_of (heap_of self.old) object.index) name.now ≡ false }
+        ensures ok { OnOk result (heap_of self.new
+            ≡ define object.index (property_with name.now value flags) (heap_of self.old)) }
+        ensures err { OnErr result (heap_of self.new ≡ heap_of self.old) }
     {
         let key = name.copy()?;
         let record = &mut self.objects[object.index() as usize];
@@ -96,8 +99,8 @@ impl Heap {
     /// Freezes the object (20.1.2.6): none of its properties may be written any more, and it gets no
     /// new ones.
     pub fn freeze(&mut self, object: Object)
-        requires { HoldsObject (store_of self.old) object.index }
-        ensures { store_of self.new ≡ freeze object.index (store_of self.old) }
+        requires { HoldsObject (heap_of self.old) object.index }
+        ensures { heap_of self.new ≡ freeze object.index (heap_of self.old) }
     {
         let record = &mut self.objects[object.index() as usize];
         record.frozen = true;
@@ -105,36 +108,35 @@ impl Heap {
 
     /// The object's own property of this name (10.1.5): its value, lent, and its flags.
     pub fn own(&self, object: Object, name: &Str) -> Option<(&Value, Flags)>
-        requires { HoldsObject (store_of self.now) object.index }
+        requires { HoldsObject (heap_of self.now) object.index }
         ensures { option_map (λ found. property_with name.now found.0.now found.1) result
-            ≡ own (store_of self.now) object.index name.now }
+            ≡ own (heap_of self.now) object.index name.now }
     {
-        let property = self.record(object).own(name)?;
-        Some((&property.value, property.flags))
+        self.record(object).own(name)
     }
 
     /// What the object is.
     pub fn kind(&self, object: Object) -> &ObjectKind
-        requires { HoldsObject (store_of self.now) object.index }
-        ensures { plain_kind result.now ≡ kind_of (store_of self.now) object.index }
+        requires { HoldsObject (heap_of self.now) object.index }
+        ensures { plain_kind result.now ≡ kind_of (heap_of self.now) object.index }
     {
         &self.record(object).kind
     }
 
     /// What the object inherits from (10.1.1).
     pub fn proto(&self, object: Object) -> Option<Object>
-        requires { HoldsObject (store_of self.now) object.index }
+        requires { HoldsObject (heap_of self.now) object.index }
         ensures answer { option_map (λ o. o.index) result
-            ≡ (object_at (store_of self.now) object.index).prototype }
-        ensures held { IfSome result (λ o. HoldsObject (store_of self.now) o.index) }
+            ≡ (object_at (heap_of self.now) object.index).prototype }
+        ensures held { IfSome result (λ o. HoldsObject (heap_of self.now) o.index) }
     {
         self.record(object).prototype
     }
 
     /// Whether the object is frozen.
     pub fn is_frozen(&self, object: Object) -> bool
-        requires { HoldsObject (store_of self.now) object.index }
-        ensures { result ≡ (object_at (store_of self.now) object.index).frozen }
+        requires { HoldsObject (heap_of self.now) object.index }
+        ensures { result ≡ (object_at (heap_of self.now) object.index).frozen }
     {
         self.record(object).frozen
     }
@@ -142,14 +144,14 @@ impl Heap {
     /// The value of the property of this name, lent: the object's own, or else the first along its
     /// prototypes (10.1.8).
     pub fn get(&self, object: Object, name: &Str) -> Option<&Value>
-        requires { HoldsObject (store_of self.now) object.index }
-        ensures { option_copied result ≡ get (store_of self.now) object.index name.now }
+        requires { HoldsObject (heap_of self.now) object.index }
+        ensures { option_copied result ≡ get (heap_of self.now) object.index name.now }
     {
         let mut chain = Some(object);
         while let Some(at) = chain {
             let record = self.record(at);
-            if let Some(property) = record.own(name) {
-                return Some(&property.value);
+            if let Some((value, _)) = record.own(name) {
+                return Some(value);
             }
             chain = record.prototype;
         }
@@ -159,11 +161,11 @@ impl Heap {
     /// Makes an environment of no names inside another one, or inside none (9.1.2.2). On want of
     /// memory nothing changes.
     pub fn env(&mut self, parent: Option<Env>) -> Result<Env, Memory>
-        requires { ForSome parent (λ outer. HoldsEnvironment (store_of self.old) outer.index) }
-        ensures ok { OnOk result (store_of self.new
-            ≡ new_environment (option_map (λ outer. outer.index) parent) (store_of self.old)) }
-        ensures environment { IfOk result (λ made. made.index ≡ next_environment (store_of self.old)) }
-        ensures err { OnErr result (store_of self.new ≡ store_of self.old) }
+        requires { ForSome parent (λ outer. HoldsEnvironment (heap_of self.old) outer.index) }
+        ensures ok { OnOk result (heap_of self.new
+            ≡ new_environment (option_map (λ outer. outer.index) parent) (heap_of self.old)) }
+        ensures environment { IfOk result (λ made. made.index ≡ next_environment (heap_of self.old)) }
+        ensures err { OnErr result (heap_of self.new ≡ heap_of self.old) }
     {
         let made = Env::at(self.environments.len() as u64);
         self.environments.push(Environment {
@@ -182,14 +184,14 @@ impl Heap {
         value: Option<Value>,
         constant: bool,
     ) -> Result<Cell, Memory>
-        requires { HoldsEnvironment (store_of self.old) env.index }
-        ensures ok { OnOk result (store_of self.new ≡ declare env.index
-            (record { name = name.now; value = value; constant = constant }) (store_of self.old)) }
+        requires { HoldsEnvironment (heap_of self.old) env.index }
+        ensures ok { OnOk result (heap_of self.new ≡ declare env.index
+            (record { name = name.now; value = value; constant = constant }) (heap_of self.old)) }
         ensures cell { IfOk result (λ cell. plain_cell cell ≡ record {
           environment = env.index;
-          place = length (environment_at (store_of self.old) env.index).bindings;
+          place = length (environment_at (heap_of self.old) env.index).bindings;
         }) }
-        ensures err { OnErr result (store_of self.new ≡ store_of self.old) }
+        ensures err { OnErr result (heap_of self.new ≡ heap_of self.old) }
     {
         let name = Name::from_str(self.alloc, name.as_str())?;
         let environment = &mut self.environments[env.index() as usize];
@@ -206,10 +208,10 @@ impl Heap {
 
     /// The cell of this name: of the environment, or else of the first outward that has it (9.1.2.1).
     pub fn lookup(&self, env: Env, name: &Name) -> Option<Cell>
-        requires { HoldsEnvironment (store_of self.now) env.index }
+        requires { HoldsEnvironment (heap_of self.now) env.index }
         ensures answer { option_map plain_cell result
-            ≡ lookup (store_of self.now) env.index name.now }
-        ensures held { IfSome result (λ cell. HoldsCell (store_of self.now) (plain_cell cell)) }
+            ≡ lookup (heap_of self.now) env.index name.now }
+        ensures held { IfSome result (λ cell. HoldsCell (heap_of self.now) (plain_cell cell)) }
     {
         let mut chain = Some(env);
         while let Some(at) = chain {
@@ -227,17 +229,17 @@ impl Heap {
 
     /// The value of the cell, lent, or none where it is not initialized (9.1.1.1.6).
     pub fn value_of(&self, cell: Cell) -> Option<&Value>
-        requires { HoldsCell (store_of self.now) (plain_cell cell) }
-        ensures { option_copied result ≡ value_of (store_of self.now) (plain_cell cell) }
+        requires { HoldsCell (heap_of self.now) (plain_cell cell) }
+        ensures { option_copied result ≡ value_of (heap_of self.now) (plain_cell cell) }
     {
         self.binding(cell).value.as_ref()
     }
 
     /// Gives a cell that is not initialized its first value (9.1.1.1.4).
     pub fn init(&mut self, cell: Cell, value: Value)
-        requires cell { HoldsCell (store_of self.old) (plain_cell cell) }
-        requires dead { value_of (store_of self.old) (plain_cell cell) ≡ None }
-        ensures { store_of self.new ≡ init (plain_cell cell) value (store_of self.old) }
+        requires cell { HoldsCell (heap_of self.old) (plain_cell cell) }
+        requires dead { value_of (heap_of self.old) (plain_cell cell) ≡ None }
+        ensures { heap_of self.new ≡ init (plain_cell cell) value (heap_of self.old) }
     {
         let environment = &mut self.environments[cell.environment.index() as usize];
         environment.init(cell.place as usize, value);
@@ -245,11 +247,11 @@ impl Heap {
 
     /// Gives the cell the value, where it is initialized and not constant (9.1.1.1.5).
     pub fn assign(&mut self, cell: Cell, value: Value) -> Assign
-        requires { HoldsCell (store_of self.old) (plain_cell cell) }
+        requires { HoldsCell (heap_of self.old) (plain_cell cell) }
         ensures answer { plain_assign result
-            ≡ assign_answer (store_of self.old) (plain_cell cell) }
-        ensures after { store_of self.new
-            ≡ assign (plain_cell cell) value (store_of self.old) }
+            ≡ assign_answer (heap_of self.old) (plain_cell cell) }
+        ensures after { heap_of self.new
+            ≡ assign (plain_cell cell) value (heap_of self.old) }
     {
         let environment = &mut self.environments[cell.environment.index() as usize];
         environment.assign(cell.place as usize, value)
@@ -257,38 +259,38 @@ impl Heap {
 
     /// Whether the object is one of this heap.
     pub fn holds_object(&self, object: Object) -> bool
-        ensures { IsTrue result ↔ HoldsObject (store_of self.now) object.index }
+        ensures { IsTrue result ↔ HoldsObject (heap_of self.now) object.index }
     {
         object.index() < self.objects.len() as u64
     }
 
     /// Whether the environment is one of this heap.
     pub fn holds_environment(&self, env: Env) -> bool
-        ensures { IsTrue result ↔ HoldsEnvironment (store_of self.now) env.index }
+        ensures { IsTrue result ↔ HoldsEnvironment (heap_of self.now) env.index }
     {
         env.index() < self.environments.len() as u64
     }
 
     /// The object, lent.
     fn record(&self, object: Object) -> &ObjectRecord
-        requires { HoldsObject (store_of self.now) object.index }
-        ensures { plain_object result.now ≡ object_at (store_of self.now) object.index }
+        requires { HoldsObject (heap_of self.now) object.index }
+        ensures { plain_object result.now ≡ object_at (heap_of self.now) object.index }
     {
         &self.objects[object.index() as usize]
     }
 
     /// The environment, lent.
     fn environment(&self, env: Env) -> &Environment
-        requires { HoldsEnvironment (store_of self.now) env.index }
-        ensures { plain_environment result.now ≡ environment_at (store_of self.now) env.index }
+        requires { HoldsEnvironment (heap_of self.now) env.index }
+        ensures { plain_environment result.now ≡ environment_at (heap_of self.now) env.index }
     {
         &self.environments[env.index() as usize]
     }
 
     /// The name that the cell is of, lent.
     fn binding(&self, cell: Cell) -> &Binding
-        requires { HoldsCell (store_of self.now) (plain_cell cell) }
-        ensures { plain_binding result.now ≡ binding_at (store_of self.now) (plain_cell cell) }
+        requires { HoldsCell (heap_of self.now) (plain_cell cell) }
+        ensures { plain_binding result.now ≡ binding_at (heap_of self.now) (plain_cell cell) }
     {
         &self.environment(cell.environment).bindings[cell.place as usize]
     }

@@ -2,6 +2,7 @@
 //! change them.
 #![tactic(auto)]
 
+mod elements;
 mod environment;
 mod heap;
 mod object;

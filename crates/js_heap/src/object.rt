@@ -1,8 +1,9 @@
 ghost use Rattle.std.specs.Prelude.{◌≡◌, OnOk, OnErr, option_map};
 
 use crate::Env;
+use crate::elements::Elements;
 use items::Memory;
-use js_value::{Object, Str, Value};
+use js_value::{Object, Str, Value, index_of};
 
 /// What an object is (ECMA-262, 10.1 to 10.4).
 #[derive(Clone, Copy, Debug, PartialEq, Eq)]
@@ -31,6 +32,21 @@ pub struct Flags {
     pub writable: bool,
 }
 
+/// The flags of an element.
+const ELEMENT: Flags = Flags {
+    enumerable: true,
+    writable: true,
+};
+
+/// The flags of an array's length.
+const LENGTH_FLAGS: Flags = Flags {
+    enumerable: false,
+    writable: true,
+};
+
+/// The key of an array's length.
+const LENGTH: [u16; 6] = [108, 101, 110, 103, 116, 104];
+
 /// A data property (6.1.7.1).
 #[derive(Debug, Drop)]
 pub struct Property {
@@ -39,20 +55,22 @@ pub struct Property {
     pub flags: Flags,
 }
 
-/// An object, with its own properties in the order in which they were added.
+/// An object, with the elements that it has where it is an array, and its other own properties in the
+/// order in which they were added.
 #[derive(Debug, Drop)]
 pub struct ObjectRecord {
     pub kind: ObjectKind,
     pub prototype: Option<Object>,
     pub frozen: bool,
+    pub elements: Elements,
     pub properties: Vec<Property>,
 }
 
 impl ObjectRecord {
     ghost use Rattle.std.specs.Prelude.{position};
     ghost use Rattle.std.specs.Str.{bytes_eq};
-    ghost use Rattle.js_value.specs.Objects.{property_of};
-    ghost use Rattle.js_heap.specs.Object.{plain_property, plain_object};
+    ghost use Rattle.js_value.specs.Objects.{property_of, own_of, own_of_array};
+    ghost use Rattle.js_heap.specs.Object.{plain_property, plain_object, property_with};
     ghost use Rattle.js_heap.specs.private.Object.{with_defined};
 
     /// The place of its own property of this key.
@@ -64,13 +82,40 @@ impl ObjectRecord {
             .position(|property| property.key.as_slice() == key.as_slice())
     }
 
-    /// Its own property of this key (10.1.5).
-    pub fn own(&self, key: &Str) -> Option<&Property>
-        ensures { option_map (λ p. plain_property p.now) result
+    /// Its own property of this key that is none of an array.
+    fn property(&self, key: &Str) -> Option<(&Value, Flags)>
+        ensures { option_map (λ found. property_with key.now found.0.now found.1) result
             ≡ property_of (plain_object self.now).properties key.now }
     {
         let place = self.place_of(key)?;
-        Some(&self.properties[place])
+        let property = &self.properties[place];
+        Some((&property.value, property.flags))
+    }
+
+    /// Its own property of this key (10.1.5): its value, lent, and its flags.
+    pub fn own(&self, key: &Str) -> Option<(&Value, Flags)>
+        ensures { option_map (λ found. property_with key.now found.0.now found.1) result
+            ≡ own_of (plain_object self.now) key.now }
+    {
+        match self.kind {
+            ObjectKind::Array => self.own_of_array(key),
+            _ => self.property(key),
+        }
+    }
+
+    /// The property of this key that an array has: an element, its length, or another.
+    fn own_of_array(&self, key: &Str) -> Option<(&Value, Flags)>
+        ensures { option_map (λ found. property_with key.now found.0.now found.1) result
+            ≡ own_of_array (plain_object self.now) key.now }
+    {
+        match index_of(key.as_slice()) {
+            Some(index) => Some((self.elements.items.get(index as usize)?, ELEMENT)),
+            None if key.as_slice() == LENGTH.as_slice() => Some((
+                &self.elements.count,
+                LENGTH_FLAGS,
+            )),
+            None => self.property(key),
+        }
     }
 
     /// Puts the property in the place of its own of the same key, or after the others (10.1.6). On

@@ -1,2 +1,3 @@
 pub mod NativeLemmas
 pub mod OpeningLemmas
+pub mod Sizes

@@ -1,12 +1,9 @@
 -- The texts of a list of values, and UTF-16 as the host reads it.
-use Rattle.std.proofs.Common.{◌≡◌, ℕ, suc, ◌<◌, true, false, cond, ◌&&◌, ◌||◌, List, [], ◌∷◌, ◌++◌, length, get_or, drop, map, nat_le, nat_lt, None, Some, refl, sym, ap, ap₂, ◌∙◌, arith, drop-cons, codes}
+use Rattle.std.proofs.Common.{◌≡◌, ℕ, true, false, cond, ◌&&◌, ◌||◌, List, [], ◌∷◌, map, nat_le, nat_lt, None, Some, refl, ap, ap₂, arith}
 use Rattle.std.specs.Option.{unwrap_or}
 use Rattle.std.specs.Char.Utf16.{utf16_chars, utf16_lossy_chars, lone_unit_char, surrogate_pair_char}
 use Rattle.std.proofs.lemmas.Bool.Decides.{nat_tests}
-use Rattle.js_value.specs.declared.value.Value.{Value}
-use Rattle.js_value.specs.declared.value.Kind.{Kind}
-use Rattle.js_value.specs.Operators.{NoText, to_text}
-use Rattle.js_value.specs.Host.{then_texted, texts_after, spaced, leads, trails, code_point, pair_code_point, code_points}
+use Rattle.js_value.specs.Host.{leads, trails, code_point, pair_code_point, code_points}
 
 surrogate : (u : ℕ) → (leads u || trails u) ≡ (nat_le 0xD800 u && nat_lt u 0xE000)
 surrogate u = grind (arith, nat_tests)
@@ -31,14 +28,3 @@ utf16_lossy_chars-code_points (u ∷ v ∷ us) =
       | true ↦ ap₂ (λ c cs. c ∷ cs) (pair_lossy u v) (utf16_lossy_chars-code_points us)
       | false ↦ ap₂ (λ c cs. c ∷ cs) (code_point_lossy u) (utf16_lossy_chars-code_points (v ∷ us))
     ]
-
--- the first value that has no text refuses
-pub texts_after-refused : (before : List ℕ) (values : List Value) (i : ℕ) (v : Value) (kind : Kind) → i < length values → v ≡ get_or values i v → to_text v ≡ NoText kind → texts_after before (drop i values) ≡ NoText kind
-texts_after-refused before values i v kind lt at refuses =
-    ap (texts_after before) (drop-cons values i v lt)
-    ∙ ap (λ x. then_texted (to_text x) (λ units. texts_after (before ++ codes " " ++ units) (drop (suc i) values))) (sym at)
-    ∙ ap (λ t. then_texted t (λ units. texts_after (before ++ codes " " ++ units) (drop (suc i) values))) refuses
-
-pub spaced-refused : (values : List Value) (v : Value) (kind : Kind) → 0 < length values → v ≡ get_or values 0 v → to_text v ≡ NoText kind → spaced values ≡ NoText kind
-spaced-refused [] v kind lt at refuses = absurd (omega arith)
-spaced-refused (x ∷ xs) v kind lt at refuses = ap (λ t. then_texted t (λ units. texts_after units xs)) (ap to_text (sym at) ∙ refuses)

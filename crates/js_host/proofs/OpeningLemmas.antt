@@ -1,38 +1,42 @@
--- What is done to the object that was made last, as one object more.
-use Rattle.std.proofs.Common.{◌≡◌, ℕ, true, false, [], ◌∷◌, Option, refl, ap, ◌∙◌}
-use Rattle.std.proofs.Math.Seq.{get_or-append_seam, set-append_seam}
-use Rattle.std.specs.Str.{bytes_eq}
-use Rattle.js_value.specs.State.{ObjectKind, Property, ObjectRecord, Store}
-use Rattle.js_value.specs.Objects.{no_object, object_at, with_object, next_object, new_object, with_property, define, freeze}
-use Rattle.js_value.specs.Realm.{built_in}
-use Rattle.js_host.specs.private.Opening.{with_added}
+-- The steps by which the opening realm is made.
+use Rattle.std.proofs.Common.{◌≡◌, ℕ, suc, ◌<◌, ◌≤◌, ◌+◌, ◌-◌, List, length, drop, get_or, map, drop-cons, add-one, sym, ap, ◌∙◌, arith}
+use Rattle.std.proofs.Math.ListN.{drop_of_length-le}
+use Rattle.std.proofs.lemmas.List.{length-map, get_or-map}
+use Rattle.js_value.specs.State.{Heap}
+use Rattle.js_value.specs.Realm.{each, freeze_all, freeze_one}
 
-pub object_at-added : (x : ObjectRecord) (s : Store) (o : ℕ) → o ≡ next_object s → object_at (with_added x s) o ≡ x
-object_at-added x s o e = rw e (get_or-append_seam s.objects x [] no_object)
+-- none is left
+pub no_more : {A : Type 0} (step : ℕ → A → Heap → Heap) (xs : List A) (i : ℕ) (h t : Heap) → length xs ≤ i → each step i (drop i xs) h ≡ t → h ≡ t
+unfolding each
+no_more step xs i h t le so_far = ap (λ ys. each step i ys h) (sym (drop_of_length-le xs le)) ∙ so_far
 
-with_object-added : (x y : ObjectRecord) (s : Store) (o : ℕ) → o ≡ next_object s → with_object o y (with_added x s) ≡ with_added y s
-with_object-added x y s o e = rw e (ap (λ os. record s { objects = os }) (set-append_seam s.objects x [] y))
+-- one more of a table that is read as it is
+pub next_one : {A : Type 0} (step : ℕ → A → Heap → Heap) (xs : List A) (i : ℕ) (d : A) (h g t : Heap) → i < length xs →
+    each step i (drop i xs) h ≡ t → g ≡ step i (get_or xs i d) h → each step (i + 1) (drop (i + 1) xs) g ≡ t
+unfolding each
+next_one step xs i d h g t lt so_far is =
+    rw add-one (ap (each step (suc i) (drop (suc i) xs)) is ∙ sym (ap (λ ys. each step i ys h) (drop-cons xs i d lt)) ∙ so_far)
 
-pub define-added : (p : Property) (x : ObjectRecord) (s : Store) (o : ℕ) → o ≡ next_object s → define o p (with_added x s) ≡ with_added (record x { properties = with_property p x.properties }) s
-define-added p x s o e =
-    ap (λ (y : ObjectRecord). with_object o (record y { properties = with_property p y.properties }) (with_added x s)) (object_at-added x s o e)
-    ∙ with_object-added x (record x { properties = with_property p x.properties }) s o e
+-- so many are left to be frozen
+pub freeze_next : (k i : ℕ) (h g t : Heap) → i < k → freeze_all (k - i) i h ≡ t → g ≡ freeze_one i h → freeze_all (k - (i + 1)) (i + 1) g ≡ t
+unfolding freeze_all
+freeze_next k i h g t lt so_far is =
+    let e : suc (k - suc i) ≡ k - i = omega arith in
+    rw add-one (ap (freeze_all (k - suc i) (suc i)) is ∙ ap (λ n. freeze_all n i h) e ∙ so_far)
 
-pub freeze-added : (x : ObjectRecord) (s : Store) (o : ℕ) → o ≡ next_object s → freeze o (with_added x s) ≡ with_added (record x { frozen = true }) s
-freeze-added x s o e =
-    ap (λ (y : ObjectRecord). with_object o (record y { frozen = true }) (with_added x s)) (object_at-added x s o e)
-    ∙ with_object-added x (record x { frozen = true }) s o e
+pub freeze_none : (k i : ℕ) (h t : Heap) → k ≤ i → freeze_all (k - i) i h ≡ t → h ≡ t
+unfolding freeze_all
+freeze_none k i h t le so_far =
+    let e : k - i ≡ 0 = omega arith in
+    sym (ap (λ n. freeze_all n i h) e) ∙ so_far
 
--- an object of no properties that is made and frozen
-pub built_empty : (kind : ObjectKind) (prototype : Option ℕ) (s : Store) (o : ℕ) → o ≡ next_object s → freeze o (new_object kind prototype s) ≡ with_added (built_in kind prototype []) s
-built_empty kind prototype s o e = freeze-added (record { kind = kind; prototype = prototype; frozen = false; properties = [] }) s o e
+-- one more of a table, as the definition reads it
+pub one_more : {X A : Type 0} (step : ℕ → A → Heap → Heap) (f : X → A) (xs : List X) (i : ℕ) (d : X) (h g t : Heap) → i < length xs →
+    each step i (drop i (map f xs)) h ≡ t → g ≡ step i (f (get_or xs i d)) h → each step (i + 1) (drop (i + 1) (map f xs)) g ≡ t
+one_more step f xs i d h g t lt so_far is =
+    let within : i < length (map f xs) = rw length-map lt in
+    next_one step (map f xs) i (f d) h g t within so_far (is ∙ ap (λ a. step i a h) (sym (get_or-map f xs i d (f d) lt)))
 
--- an object of two properties that is made and frozen
-pub built_pair : (kind : ObjectKind) (prototype : Option ℕ) (p q : Property) (s : Store) (o : ℕ) → o ≡ next_object s → bytes_eq p.key q.key ≡ false → freeze o (define o q (define o p (new_object kind prototype s))) ≡ with_added (built_in kind prototype (p ∷ q ∷ [])) s
-built_pair kind prototype p q s o e apart =
-    let made : ObjectRecord = record { kind = kind; prototype = prototype; frozen = false; properties = [] } in
-    let one : ObjectRecord = record made { properties = p ∷ [] } in
-    let two : ObjectRecord = record made { properties = p ∷ q ∷ [] } in
-    ap (λ t. freeze o (define o q t)) (define-added p made s o e)
-    ∙ ap (freeze o) (define-added q one s o e ∙ ap (λ ps. with_added (record made { properties = ps }) s) (rw apart refl))
-    ∙ freeze-added two s o e
+-- none of it is left
+pub none_more : {X A : Type 0} (step : ℕ → A → Heap → Heap) (f : X → A) (xs : List X) (i : ℕ) (h t : Heap) → length xs ≤ i → each step i (drop i (map f xs)) h ≡ t → h ≡ t
+none_more step f xs i h t le so_far = let past : length (map f xs) ≤ i = rw length-map le in no_more step (map f xs) i h t past so_far

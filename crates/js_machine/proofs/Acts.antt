@@ -1,126 +1,105 @@
--- What is done to the store, in the store of the whole machine.
-use Rattle.std.proofs.Common.{◌≡◌, ℕ, zero, suc, List, Option, Some, None, Result, IfOk, refl, sym, subst, ap, ◌∙◌}
+-- What is done to the heap, in the store of the whole machine.
+use Rattle.std.proofs.Common.{◌≡◌, ℕ, List, Option, Some, None, Result, IfOk, refl, sym, subst, ap, ◌∙◌}
 use Rattle.std.proofs.lemmas.List.{set-get_or}
 use Rattle.std.proofs.lemmas.Result.{IfOk-weaker}
-use Rattle.std.specs.declared.alloc.Global.{Global}
-use Rattle.std.specs.declared.vec.Vec.{Vec}
 use Rattle.js_value.specs.declared.value.Value.{Value}
-use Rattle.js_value.specs.State.{Store, Environment}
-use Rattle.js_value.specs.Environments.{Cell, no_environment, no_binding, with_bindings, with_binding, assigned, environment_at, place_of, resolved, lookup, binding_at, assign, assign_answer, Assign, Done, Dead, Constant}
+use Rattle.js_value.specs.State.{Heap, Store, Environment}
+use Rattle.js_value.specs.Environments.{Cell, no_environment, no_binding, with_bindings, with_binding, assigned, environment_at, lookup, binding_at, assign, assign_answer, Assign, Done, Dead, Constant}
 use Rattle.js_heap.specs.declared.environment.Env.{Env}
-use Rattle.js_heap.specs.Heap.{store_of}
-use Rattle.js_meaning.specs.declared.outcome.Completion.{Completion}
-use Rattle.js_meaning.specs.Effects.{Entry, Comp, handle, exec}
-use Rattle.js_meaning.specs.Meaning.{value_in, assigns, assign_in, not_defined, not_initialised, not_assignable, read, write}
+use Rattle.js_heap.specs.Heap.{heap_of}
+use Rattle.js_code.specs.declared.node.Node.{Node}
+use Rattle.js_code.specs.Code.{node_at}
+use Rattle.js_meaning.specs.declared.outcome.Completion.TheVariants.{Normal}
+use Rattle.js_meaning.specs.Effects.{Comp, ret, handle, exec}
+use Rattle.js_meaning.specs.Program.{Sources}
+use Rattle.js_meaning.specs.Meaning.{value_in, assigns, assign_in, not_defined, not_initialised, not_assignable, write}
 use Rattle.js_machine.specs.declared.data.Action.{Action}
 use Rattle.js_machine.specs.declared.data.Action.TheVariants as action
 use Rattle.js_machine.specs.declared.data.Control.{Control}
 use Rattle.js_machine.specs.declared.state.State.{State}
-use Rattle.js_machine.specs.private.Config.{View, action_comp, control_comp}
-use Rattle.js_machine.specs.private.State.{store_in, Becomes}
-use Rattle.js_machine.specs.private.Done.{after_assign, Assigned, AssignedTo}
-use Rattle.js_machine.proofs.Outside.{found_or}
+use Rattle.js_machine.specs.private.Config.{View, view_of, name_of, action_comp, control_comp}
+use Rattle.js_machine.specs.private.State.{store_in, with_heap, Becomes}
 
--- a name is found in the environments alone
-resolved_in : (base : Store) (s : State) (n : ℕ) (chain : Option ℕ) (name : List ℕ) →
-    resolved n (store_in base s) chain name ≡ resolved n (store_of s.heap) chain name
-resolved_in base s zero chain name = refl
-resolved_in base s (suc n) None name = refl
-resolved_in base s (suc n) (Some e) name =
-    ap (λ outward. found_or e outward (place_of (environment_at (store_of s.heap) e) name))
-    (resolved_in base s n (environment_at (store_of s.heap) e).outer name)
+-- the same computation
+pub becomes_same : (c d : Comp) (s : Store) → d ≡ c → Becomes c s d s
+becomes_same c d s is = record { same = λ inside n next. ap (λ x. exec inside n (handle x next) s) (sym is) }
 
-lookup_in : (base : Store) (s : State) (e : ℕ) (name : List ℕ) →
-    lookup (store_in base s) e name ≡ lookup (store_of s.heap) e name
-lookup_in base s e name = resolved_in base s (suc e) (Some e) name
+-- Assignments
 
-value_in_same : (base : Store) (s : State) (cell : Option Cell) → value_in (store_in base s) cell ≡ value_in (store_of s.heap) cell
-value_in_same base s None = refl
-value_in_same base s (Some cell) = refl
-
-read_becomes : (base : Store) (s : State) (e : ℕ) (name : List ℕ) (d : Comp) →
-    d ≡ value_in (store_of s.heap) (lookup (store_of s.heap) e name) →
-    Becomes (read name e) (store_in base s) d (store_in base s)
-read_becomes base s e name d is =
-    let found : value_in (store_in base s) (lookup (store_in base s) e name) ≡ d =
-    value_in_same base s (lookup (store_in base s) e name)
-    ∙ ap (value_in (store_of s.heap)) (lookup_in base s e name) ∙ sym is
-    in
-    record { same = λ inside n next. ap (λ c. exec inside n (handle c next) (store_in base s)) found }
-
--- the machine's store after a change of the heap alone that the heap's store tells
-pub store_changes : (base : Store) (s u : State) (change : Store → Store) →
-    store_of u.heap ≡ change (store_of s.heap) → u.output ≡ s.output →
-    store_in base u ≡ record base { objects = (change (store_of s.heap)).objects; environments = (change (store_of s.heap)).environments; output = s.output.items }
-store_changes base s u change is same =
-    ap (λ (x : Store). record base { objects = x.objects; environments = x.environments; output = u.output.items }) is
-    ∙ ap (λ (out : Vec ℕ Global). record base { objects = (change (store_of s.heap)).objects; environments = (change (store_of s.heap)).environments; output = out.items }) same
+-- a store with another heap
+abbrev in_store : Store → Heap → Store
+in_store base h = record base { heap = h }
 
 -- what stands in a cell, put there once more
-written_again : (s : Store) (cell : Cell) → with_binding cell (binding_at s cell) s ≡ s
-written_again s cell =
-    ap (λ bs. with_bindings cell.environment bs s) (set-get_or (environment_at s cell.environment).bindings cell.place no_binding)
-    ∙ ap (λ (es : List Environment). record s { environments = es }) (set-get_or s.environments cell.environment no_environment)
+written_again : (h : Heap) (cell : Cell) → with_binding cell (binding_at h cell) h ≡ h
+written_again h cell =
+    ap (λ bs. with_bindings cell.environment bs h) (set-get_or (environment_at h cell.environment).bindings cell.place no_binding)
+    ∙ ap (λ (es : List Environment). record h { environments = es }) (set-get_or h.environments cell.environment no_environment)
 
 -- an assignment that is not done changes nothing
-not_assigned : (s : Store) (cell : Cell) (v : Value) (a : Assign) → a ≡ assign_answer s cell →
-    assigned a v (binding_at s cell) ≡ binding_at s cell → assign cell v s ≡ s
-not_assigned s cell v a is keeps =
-    ap (λ x. with_binding cell (assigned x v (binding_at s cell)) s) (sym is)
-    ∙ ap (λ b. with_binding cell b s) keeps ∙ written_again s cell
+not_assigned : (h : Heap) (cell : Cell) (v : Value) (a : Assign) → a ≡ assign_answer h cell →
+    assigned a v (binding_at h cell) ≡ binding_at h cell → assign cell v h ≡ h
+not_assigned h cell v a is keeps =
+    ap (λ x. with_binding cell (assigned x v (binding_at h cell)) h) (sym is)
+    ∙ ap (λ b. with_binding cell b h) keeps ∙ written_again h cell
 
-module _ (base : Store) (s u : State) (v : Value) (d : Comp) (printed : u.output ≡ s.output) (inside : Entry → Comp) (n : ℕ) (next : Completion → Comp) where
-  -- nothing is changed
-  same_store : (c : Comp) → store_of u.heap ≡ store_of s.heap → d ≡ c →
-      exec inside n (handle c next) (store_in base s) ≡ exec inside n (handle d next) (store_in base u)
-  same_store c is done =
-      ap (λ x. exec inside n (handle x next) (store_in base s)) (sym done)
-      ∙ ap (exec inside n (handle d next)) (sym (store_changes base s u (λ x. x) is printed))
+-- what follows an assignment
+abbrev pub after_assign : Value → Assign → Comp
+after_assign v Done = ret (Normal v)
+after_assign v Dead = not_initialised
+after_assign v Constant = not_assignable
 
-  by_answer : (cell : Cell) (a : Assign) → a ≡ assign_answer (store_of s.heap) cell →
-      store_of u.heap ≡ assign cell v (store_of s.heap) → d ≡ after_assign v a →
-      exec inside n (handle (assigns cell v a) next) (store_in base s) ≡ exec inside n (handle d next) (store_in base u)
-  by_answer cell Done answer is done =
-      ap (λ x. exec inside n (handle x next) (assign cell v (store_in base s))) (sym done)
-      ∙ ap (exec inside n (handle d next)) (sym (store_changes base s u (assign cell v) is printed))
-  by_answer cell Dead answer is done =
-      same_store not_initialised (is ∙ not_assigned (store_of s.heap) cell v Dead answer refl) done
-  by_answer cell Constant answer is done =
-      same_store not_assignable (is ∙ not_assigned (store_of s.heap) cell v Constant answer refl) done
-
-  by_cell : (cell : Option Cell) → AssignedTo v (store_of s.heap) (store_of u.heap) d cell →
-      exec inside n (handle (assign_in v (store_in base s) cell) next) (store_in base s) ≡ exec inside n (handle d next) (store_in base u)
-  by_cell None h = same_store not_defined h.0 h.1
-  by_cell (Some cell) h = by_answer cell (assign_answer (store_of s.heap) cell) refl h.0 h.1
-
-write_becomes : (base : Store) (s u : State) (e : ℕ) (name : List ℕ) (v : Value) (d : Comp) →
-    Assigned v name e (store_of s.heap) (store_of u.heap) d → u.output ≡ s.output →
-    Becomes (write name e v) (store_in base s) d (store_in base u)
-write_becomes base s u e name v d h printed = record {
-  same = λ inside n next.
-      ap (λ cell. exec inside n (handle (assign_in v (store_in base s) cell) next) (store_in base s)) (lookup_in base s e name)
-      ∙ by_cell base s u v d printed inside n next (lookup (store_of s.heap) e name) h;
+assigns_becomes : (base : Store) (h : Heap) (cell : Cell) (v : Value) (a : Assign) → a ≡ assign_answer h cell →
+    Becomes (assigns cell v a) (in_store base h) (after_assign v a) (in_store base (assign cell v h))
+assigns_becomes base h cell v Done is = record { same = λ inside n next. refl }
+assigns_becomes base h cell v Dead is = record {
+  same = λ inside n next. ap (λ g. exec inside n (handle not_initialised next) (in_store base g)) (sym (not_assigned h cell v Dead is refl));
+}
+assigns_becomes base h cell v Constant is = record {
+  same = λ inside n next. ap (λ g. exec inside n (handle not_assignable next) (in_store base g)) (sym (not_assigned h cell v Constant is refl));
 }
 
--- The actions
+module _ (base : Store) (h : Heap) (e : ℕ) (name : List ℕ) (v : Value) where
+  -- a write is an assignment to the cell of the name
+  by_cell : (cell : Option Cell) → cell ≡ lookup h e name → (d : Comp) (g : Heap) →
+      Becomes (assign_in v h cell) (in_store base h) d (in_store base g) →
+      Becomes (write name e v) (in_store base h) d (in_store base g)
+  by_cell cell found d g becomes = record {
+    same = λ inside n next.
+        ap (λ x. exec inside n (handle (assign_in v h x) next) (in_store base h)) (sym found) ∙ becomes.same inside n next;
+  }
 
-module _ {E : Type 0} (t : View) (s : State) (a : Action) (r : Result Control E) where
+  pub writes_nowhere : None ≡ lookup h e name → Becomes (write name e v) (in_store base h) not_defined (in_store base h)
+  writes_nowhere none = by_cell None none not_defined h (becomes_same not_defined not_defined (in_store base h) refl)
+
+  pub writes_to : (cell : Cell) (a : Assign) (g : Heap) → Some cell ≡ lookup h e name → a ≡ assign_answer h cell → g ≡ assign cell v h →
+      Becomes (write name e v) (in_store base h) (after_assign v a) (in_store base g)
+  writes_to cell a g found answer after =
+      by_cell (Some cell) found (after_assign v a) g
+      (subst (λ b. Becomes (assigns cell v b) (in_store base h) (after_assign v a) (in_store base g)) answer
+      (subst (λ k. Becomes (assigns cell v a) (in_store base h) (after_assign v a) (in_store base k)) (sym after)
+      (assigns_becomes base h cell v a answer)))
+
+-- Actions
+
+module _ {E : Type 0} (nodes : List Node) (s : State) (a : Action) (r : Result Control E) where
+  -- what is done for an action
+  abbrev Performs : State → Type 0
+  Performs u = IfOk r (λ control. (p : Sources) (base : Store) →
+      Becomes (action_comp (view_of p nodes) a) (store_in base s) (control_comp (view_of p nodes) control) (store_in base u))
+
   pub performs_read : (name : ℕ) (env : Env) → a ≡ action.Read name env →
-      IfOk r (λ control. (t' : View) → control_comp t' control ≡ value_in (store_of s.heap) (lookup (store_of s.heap) env.index (t.name name))) →
-      IfOk r (λ control. (base : Store) → Becomes (action_comp t a) (store_in base s) (control_comp t control) (store_in base s))
-  performs_read name env is = IfOk-weaker r
-      (λ control. (t' : View) → control_comp t' control ≡ value_in (store_of s.heap) (lookup (store_of s.heap) env.index (t.name name)))
-      (λ control. (base : Store) → Becomes (action_comp t a) (store_in base s) (control_comp t control) (store_in base s))
-      (λ control means base. subst
-      (λ b. Becomes (action_comp t b) (store_in base s) (control_comp t control) (store_in base s)) (sym is)
-      (read_becomes base s env.index (t.name name) (control_comp t control) (means t)))
+      IfOk r (λ control. (t : View) → control_comp t control
+      ≡ value_in (heap_of s.heap) (lookup (heap_of s.heap) env.index (name_of (node_at nodes name)))) → Performs s
+  performs_read name env is = IfOk-weaker r _ _ (λ control means p base. subst
+      (λ b. Becomes (action_comp (view_of p nodes) b) (store_in base s) (control_comp (view_of p nodes) control) (store_in base s)) (sym is)
+      (record { same = λ inside n next. ap (λ c. exec inside n (handle c next) (store_in base s)) (sym (means (view_of p nodes))) }))
 
   pub performs_write : (name : ℕ) (env : Env) (v : Value) (u : State) → a ≡ action.Write name env v → u.output ≡ s.output →
-      IfOk r (λ control. (t' : View) → Assigned v (t.name name) env.index (store_of s.heap) (store_of u.heap) (control_comp t' control)) →
-      IfOk r (λ control. (base : Store) → Becomes (action_comp t a) (store_in base s) (control_comp t control) (store_in base u))
-  performs_write name env v u is printed = IfOk-weaker r
-      (λ control. (t' : View) → Assigned v (t.name name) env.index (store_of s.heap) (store_of u.heap) (control_comp t' control))
-      (λ control. (base : Store) → Becomes (action_comp t a) (store_in base s) (control_comp t control) (store_in base u))
-      (λ control means base. subst
-      (λ b. Becomes (action_comp t b) (store_in base s) (control_comp t control) (store_in base u)) (sym is)
-      (write_becomes base s u env.index (t.name name) v (control_comp t control) (means t) printed))
+      IfOk r (λ control. (t : View) (base : Store) →
+      Becomes (write (name_of (node_at nodes name)) env.index v) (with_heap base s.heap) (control_comp t control) (with_heap base u.heap)) → Performs u
+  performs_write name env v u is printed = IfOk-weaker r _ _ (λ control means p base. subst
+      (λ b. Becomes (action_comp (view_of p nodes) b) (store_in base s) (control_comp (view_of p nodes) control) (store_in base u)) (sym is)
+      (subst (λ (out : List ℕ). Becomes (write (name_of (node_at nodes name)) env.index v) (store_in base s) (control_comp (view_of p nodes) control)
+      (record base { heap = heap_of u.heap; output = out })) (sym (ap (λ o. o.items) printed))
+      (means (view_of p nodes) (record base { output = s.output.items }))))

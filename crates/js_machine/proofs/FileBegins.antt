@@ -1,75 +1,109 @@
 -- A file begins where the machine stands.
-use Rattle.std.proofs.Common.{◌≡◌, ℕ, ◌+◌, true, false, List, [], ◌∷◌, Some, slice_get, refl, sym, ap, ◌∙◌, arith}
+use Rattle.std.proofs.Common.{◌≡◌, ℕ, zero, suc, ◌+◌, true, false, List, [], ◌∷◌, Some, slice_get, refl, sym, ap, ◌∙◌, arith}
 use Rattle.std.specs.Option.{option_map}
 use Rattle.std.proofs.lemmas.Option.{slice_get-map}
 use Rattle.js_tree.specs.Plain.{File, MakeFile, Stmts}
-use Rattle.js_value.specs.State.{Store, Binding}
+use Rattle.js_tree.specs.Linked.{Numbers, Unmarked, link_file}
+use Rattle.js_value.specs.State.{Store, Heap}
 use Rattle.js_value.specs.Objects.{next_object}
-use Rattle.js_value.specs.Environments.{declare, new_environment}
-use Rattle.js_value.specs.Realm.{realm, global_environment}
-use Rattle.js_meaning.specs.Effects.{exec}
+use Rattle.js_value.specs.Environments.{next_environment}
+use Rattle.js_value.specs.Realm.{opening, realm}
+use Rattle.js_heap.specs.declared.environment.Env.{Env}
+use Rattle.js_heap.specs.Heap.{heap_of}
+use Rattle.js_code.specs.declared.node.Node.{Node}
+use Rattle.js_code.specs.Code.{reader, numbered, ReadsStmts}
+use Rattle.js_meaning.specs.Effects.{Comp, handle, exec}
 use Rattle.js_meaning.specs.Language.{is_said_file}
-use Rattle.js_meaning.specs.Program.{Source, Sources, uncounted, uncounted_source}
+use Rattle.js_meaning.specs.Program.{Source, Sources, from, link_source, link_sources, uncounted, uncounted_source}
 use Rattle.js_meaning.specs.VarNames.{var_stmts}
-use Rattle.js_meaning.specs.Files.{declare_all, file_names, file_objects, file_environment, begin, start_source, run_source, inside}
+use Rattle.js_meaning.specs.Meaning.{comp_stmts}
+use Rattle.js_meaning.specs.Files.{file_objects, file_environment, begin, after_body, start_source, run_source, inside}
 use Rattle.js_meaning.specs.World.{meaning}
-use Rattle.js_machine.specs.private.Config.{view_of}
-use Rattle.js_machine.specs.private.Moves.{todo}
-use Rattle.js_machine.specs.private.Opening.{Found, Opens, statements_of, opened_with, opened_environment, names_of, body_of}
+use Rattle.js_machine.specs.declared.data.Control.TheVariants.{ExecuteAll}
+use Rattle.js_machine.specs.declared.data.Frame.{Frame}
+use Rattle.js_machine.specs.declared.data.Frame.TheVariants.{FileBody}
+use Rattle.js_machine.specs.declared.state.State.{State}
+use Rattle.js_machine.specs.private.Config.{view_of, plug}
+use Rattle.js_machine.specs.private.Moves.{here, todo}
+use Rattle.js_machine.specs.private.Opening.{Found, Opens, statements_of}
 use Rattle.js_machine.specs.private.State.{store_in}
-use Rattle.js_machine.specs.Whole.{Whole, AreSaid, Begins}
+use Rattle.js_machine.specs.Whole.{Whole, AreSaid, Begins, running}
 
--- the objects and environments of a store, and all else of another
-moved : Store → Store → Store
-moved base s = record base { objects = s.objects; environments = s.environments }
-
-declare_all-moved : (e : ℕ) (bs : List Binding) (base s : Store) → declare_all e bs (moved base s) ≡ moved base (declare_all e bs s)
-unfolding moved
-declare_all-moved e [] base s = refl
-declare_all-moved e (b ∷ bs) base s = declare_all-moved e bs base (declare e b s)
-
--- the environment of a file, in the store of the machine
-opens_store : (source : Source) (file : ℕ) (statements : Stmts) (m : Whole) → Opens statements m →
-    file_environment (next_object realm) (var_stmts statements) (begin (uncounted_source source) file realm)
-    ≡ store_in (begin (uncounted_source source) file realm) m.here.state
-unfolding moved
-opens_store source file statements m opens =
-    let began = begin (uncounted_source source) file realm in
-    declare_all-moved opened_environment (file_names (next_object realm) (var_stmts statements)) began
-    (new_environment (Some global_environment) (file_objects realm))
-    ∙ sym (ap (λ (s : Store). record began { objects = s.objects; environments = s.environments; output = m.here.state.output.items }) opens.heap
-    ∙ ap (λ (out : List ℕ). record began { objects = (opened_with (names_of statements)).objects; environments = (opened_with (names_of statements)).environments; output = out }) opens.printed)
-
-found_uncounted : (p : Sources) (file : ℕ) (source : Source) → slice_get p.files file ≡ Some source →
-    slice_get (uncounted p).files file ≡ Some (uncounted_source source)
-found_uncounted p file source is = slice_get-map uncounted_source p.files file ∙ ap (option_map uncounted_source) is
-
-pub begins : (p : Sources) (path : List ℕ) (source : Source) (m : Whole) → Found p path source → Opens (statements_of source.tree) m → Begins p path m
-begins p path source m found opens = record {
-  follows = record {
-    file = found.file;
-    found = found.found;
-    began = begin (uncounted_source source) found.file realm;
-    same = λ more. by source.tree refl more;
-  };
-  given = opens.given;
-  printed = opens.printed;
-  lost = opens.lost;
+-- a machine that has these statements before it
+pub opens : (statements : Stmts) (nodes : List Node) (frames : List Frame) (place : ℕ) (env : Env) (state : State) → frames ≡ FileBody ∷ [] →
+    ((k : Numbers) → ReadsStmts nodes place (numbered statements k)) → env.index ≡ next_environment opening →
+    ((k : Numbers) → heap_of state.heap ≡ file_environment (next_object opening) (var_stmts (numbered statements k)) (file_objects opening)) →
+    state.output.items ≡ [] →
+    Opens statements (record { code = nodes; here = here frames (ExecuteAll place env) state; given = 0; lost = false })
+opens statements nodes frames place env state waits reads at heap printed = record {
+  todo = λ p k.
+      ap (λ fs. plug (view_of p nodes) fs (comp_stmts p ((reader nodes).stmts place) env.index)) waits
+      ∙ ap (λ xs. handle (comp_stmts p xs env.index) after_body) (reads k).read
+      ∙ ap (λ e. handle (comp_stmts p (numbered statements k) e) after_body) at;
+  heap = heap;
+  printed = printed;
+  given = refl;
+  lost = refl;
 }
-  where
-    by : (tree : File) → source.tree ≡ tree → (more : ℕ) → meaning (uncounted p) found.file (m.given + more)
-        ≡ exec (inside (uncounted p)) more (todo (view_of m.code) m.here) (store_in (begin (uncounted_source source) found.file realm) m.here.state)
-    by (MakeFile statements comments) is more =
-        let began = begin (uncounted_source source) found.file realm in
-        let statement : statements_of source.tree ≡ statements = ap statements_of is in
-        let none : m.given + more ≡ more = omega (arith, opens.given) in
-        let store = opens_store source found.file (statements_of source.tree) m opens in
-        ap (meaning (uncounted p) found.file) none
-        ∙ ap (λ file. exec (inside (uncounted p)) more (start_source file found.file) realm) (found_uncounted p found.file source found.is)
-        ∙ ap (λ t. exec (inside (uncounted p)) more (run_source (record { path = source.path; tree = t; counted = false }) found.file) realm) is
-        ∙ ap (λ xs. exec (inside (uncounted p)) more (body_of xs) (file_environment (next_object realm) (var_stmts xs) began)) (sym statement)
-        ∙ ap (exec (inside (uncounted p)) more (body_of (statements_of source.tree))) store
-        ∙ ap (λ c. exec (inside (uncounted p)) more c (store_in began m.here.state)) (sym opens.todo)
+
+-- among linked files a file stands with its functions numbered on from some number
+record LinkedAt (files : List Source) (i : ℕ) (source : Source) : Type 0 where
+  file : ℕ
+  code : ℕ
+  is : slice_get files i ≡ Some (record source { tree = (link_source source file code).tree })
+
+linked_at : (sources : List Source) (file code i : ℕ) (source : Source) → slice_get sources i ≡ Some source →
+    LinkedAt (link_sources sources file code) i source
+linked_at [] file code i source is = absurd cc
+linked_at (x ∷ xs) file code zero source is = record {
+  file = file;
+  code = code;
+  is = ap (option_map (λ (s : Source). record s { tree = (link_source s file code).tree })) is;
+}
+linked_at (x ∷ xs) file code (suc i) source is =
+    let found = linked_at xs (suc file) (link_source x file code).next.code i source is in
+    record { file = found.file; code = found.code; is = found.is }
+
+-- the same where none is counted
+linked_uncounted : (p : Sources) (i : ℕ) (source : Source) → slice_get p.files i ≡ Some source →
+    LinkedAt (running p).files i (uncounted_source source)
+linked_uncounted p i source is =
+    linked_at (uncounted p).files 0 (link_file Unmarked p.prelude (from 0)).next.code i (uncounted_source source)
+    (slice_get-map uncounted_source p.files i ∙ ap (option_map uncounted_source) is)
+
+module _ (p : Sources) (path : List ℕ) (source : Source) (m : Whole) (found : Found p path source) (opens : Opens (statements_of source.tree) m) where
+  -- the store when the statements of the file are to begin
+  abbrev began : Store
+  began = begin (uncounted_source source) found.file realm
+
+  by : (at : LinkedAt (running p).files found.file (uncounted_source source)) (tree : File) → source.tree ≡ tree → (more : ℕ) →
+      meaning (uncounted p) found.file (m.given + more)
+      ≡ exec (inside (running p)) more (todo (view_of (running p) m.code) m.here) (store_in began m.here.state)
+  by at (MakeFile statements comments) is more =
+      let q = running p in
+      let k = from at.code in
+      let body : Stmts → Comp = λ xs. handle (comp_stmts q (numbered xs k) (next_environment opening)) after_body in
+      let none : m.given + more ≡ more = omega (arith, opens.given) in
+      ap (meaning (uncounted p) found.file) none
+      ∙ ap (λ file. exec (inside q) more (start_source q file found.file) realm) at.is
+      ∙ ap (λ tree. exec (inside q) more (run_source q (record { path = source.path; tree = (link_file Unmarked tree k).tree; counted = false }) found.file) realm) is
+      ∙ ap (λ xs. exec (inside q) more (body xs) (record began { heap = file_environment (next_object opening) (var_stmts (numbered xs k)) (file_objects opening) })) (sym (ap statements_of is))
+      ∙ ap (λ (h : Heap). exec (inside q) more (body (statements_of source.tree)) (record began { heap = h })) (sym (opens.heap k))
+      ∙ ap (λ (out : List ℕ). exec (inside q) more (body (statements_of source.tree)) (record began { heap = heap_of m.here.state.heap; output = out })) (sym opens.printed)
+      ∙ ap (λ c. exec (inside q) more c (store_in began m.here.state)) (sym (opens.todo q k))
+
+  pub begins : Begins p path m
+  begins = record {
+    follows = record {
+      file = found.file;
+      found = found.found;
+      began = began;
+      same = by (linked_uncounted p found.file source found.is) source.tree refl;
+    };
+    given = opens.given;
+    printed = opens.printed;
+    lost = opens.lost;
+  }
 
 -- the meaning of the file that was found is said
 pub said_at : (p : Sources) (path : List ℕ) (source : Source) → AreSaid p → Found p path source → is_said_file source.tree ≡ true

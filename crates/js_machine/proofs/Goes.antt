@@ -12,10 +12,10 @@ use Rattle.js_machine.specs.private.Config.{view_of}
 use Rattle.js_machine.specs.private.Moves.{todo}
 use Rattle.js_machine.specs.private.Runs.{Runs, rest_outcome}
 use Rattle.js_machine.specs.private.State.{store_in}
-use Rattle.js_machine.specs.Whole.{Whole, Follows, EndsAs, Goes}
+use Rattle.js_machine.specs.Whole.{Whole, running, Follows, EndsAs, Goes}
 
 module _ (steps : ℕ) (old new : Whole) (rest : Rest) (end : End)
-    (runs : (p : Sources) → Runs p (view_of old.code) steps old.here rest new.here)
+    (runs : (p : Sources) → Runs p (view_of p old.code) steps old.here rest new.here)
     (code : new.code ≡ old.code) (given : new.given ≡ old.given + steps)
     (ended : (began : Store) → end ≡ end_of (rest_outcome rest) (store_in began new.here.state)) where
   follows_on : (p : Sources) (path : List ℕ) → Follows p path old → Follows p path new
@@ -27,8 +27,8 @@ module _ (steps : ℕ) (old new : Whole) (rest : Rest) (end : End)
         let sum : new.given + more ≡ old.given + (steps + more) = omega (arith, given) in
         ap (meaning (uncounted p) f.file) sum
         ∙ f.same (steps + more)
-        ∙ (runs (uncounted p)).takes.same f.began more
-        ∙ ap (λ nodes. exec (inside (uncounted p)) more (todo (view_of nodes) new.here) (store_in f.began new.here.state)) (sym code);
+        ∙ (runs (running p)).takes.same f.began more
+        ∙ ap (λ nodes. exec (inside (running p)) more (todo (view_of (running p) nodes) new.here) (store_in f.began new.here.state)) (sym code);
   }
 
   ends_as : (p : Sources) (path : List ℕ) → Follows p path old → EndsAs p path end new
@@ -36,8 +36,8 @@ module _ (steps : ℕ) (old new : Whole) (rest : Rest) (end : End)
       let sum : new.given ≡ old.given + (steps + 0) = omega (arith, given) in
       let all = ap (meaning (uncounted p) f.file) sum
       ∙ f.same (steps + 0)
-      ∙ (runs (uncounted p)).takes.same f.began 0
-      ∙ (runs (uncounted p)).ends f.began
+      ∙ (runs (running p)).takes.same f.began 0
+      ∙ (runs (running p)).ends f.began
       in
       record {
         run = plainly (meaning (uncounted p) f.file new.given);

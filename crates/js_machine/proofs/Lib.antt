@@ -3,6 +3,7 @@ mod Entries
 mod FileBegins
 mod Goes
 mod Kept
+mod Lists
 mod Moves
 mod Natives
 mod Opened
@@ -11,4 +12,3 @@ mod Outside
 mod Places
 mod Plug
 mod Runs
-mod ShownIn

@@ -6,11 +6,11 @@ use Rattle.js_value.specs.declared.value.Kind.{Kind}
 use Rattle.js_value.specs.Operators.{Answer, Gives, Refuses, given, binary, has_answer}
 use Rattle.js_value.specs.Realm.{undefined}
 use Rattle.js_meaning.specs.declared.outcome.Completion.TheVariants.{Normal}
-use Rattle.js_meaning.specs.Effects.{ret, refuse}
+use Rattle.js_meaning.specs.Effects.{Unsaid, ret, refuse, enter}
 use Rattle.js_meaning.specs.Meaning.{operated, answered, unsaid}
 
--- of an operator of which nothing is said, nothing else is asked
-pub not_said : (operator : BinaryOperator) (v w : Value) → has_answer operator ≡ false → operated operator v w ≡ ret (Normal undefined)
+-- an operator of which nothing is said
+pub not_said : (operator : BinaryOperator) (v w : Value) → has_answer operator ≡ false → operated operator v w ≡ enter Unsaid ret
 unfolding unsaid
 not_said operator v w h = rw h refl
 

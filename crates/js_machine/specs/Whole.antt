@@ -6,7 +6,7 @@ use Rattle.js_code.specs.declared.node.Node.{Node}
 use Rattle.js_meaning.specs.declared.outcome.End.{End}
 use Rattle.js_meaning.specs.Effects.{exec}
 use Rattle.js_meaning.specs.Language.{is_said_file}
-use Rattle.js_meaning.specs.Program.{Sources, uncounted, file_at}
+use Rattle.js_meaning.specs.Program.{Sources, linked, uncounted, file_at}
 use Rattle.js_meaning.specs.Files.{inside}
 use Rattle.js_meaning.specs.World.{meaning, PlainRun, plain}
 use Rattle.js_machine.specs.private.Config.{view_of}
@@ -23,6 +23,10 @@ pub record Whole : Type 0 where
 abbrev pub output_of : Whole → List ℕ
 output_of m = m.here.state.output.items
 
+-- the program as it runs where nothing is counted
+abbrev pub running : Sources → Sources
+running p = linked (uncounted p)
+
 -- the meaning of each file is said
 pub record AreSaid (p : Sources) : Type 0 where
   pub each : (file : ℕ) → ForSome (slice_get p.files file) (λ source. is_said_file source.tree ≡ true)
@@ -34,7 +38,7 @@ pub record Follows (p : Sources) (path : List ℕ) (m : Whole) : Type 0 where
   pub found : file_at p path ≡ Some file
   pub began : Store
   pub same : (more : ℕ) → meaning (uncounted p) file (m.given + more)
-      ≡ exec (inside (uncounted p)) more (todo (view_of m.code) m.here) (store_in began m.here.state)
+      ≡ exec (inside (running p)) more (todo (view_of (running p) m.code) m.here) (store_in began m.here.state)
 
 -- it stands at the beginning of the file at the path, and has printed nothing
 pub record Begins (p : Sources) (path : List ℕ) (m : Whole) : Type 0 where

@@ -1,8 +1,9 @@
 // From one place that asks for a step to the next.
 
 ghost use Rattle.std.specs.Prelude.{◌≡◌, ◌<◌, ◌+◌, [], IfOk};
+ghost use Rattle.js_code.specs.Node.{Reader};
 ghost use Rattle.js_code.specs.Code.{reader};
-ghost use Rattle.js_meaning.specs.Marks.{Unmarked};
+ghost use Rattle.js_meaning.specs.Program.{Sources};
 ghost use Rattle.js_meaning.specs.Meaning.{comp_expr, comp_arguments, comp_declarators, comp_stmt, comp_stmts};
 ghost use Rattle.js_machine.specs.private.Weight.{weight_expr, weight_exprs, weight_declarators, weight_stmt, weight_stmts};
 ghost use Rattle.js_machine.specs.private.Config.{View, view_of, step_comp, step_weight, control_comp, control_weight, plug, frames_weight};
@@ -12,57 +13,50 @@ use crate::data::{Control, Frame, Move, Rest, Step};
 use crate::perform::perform;
 use crate::state::State;
 use crate::step::{
-    begin_arguments, begin_call, begin_declarators, begin_expression, begin_initializer,
-    begin_statement, begin_statements, null, resume, undefined,
+    begin_arguments, begin_declarators, begin_expression, begin_initializer, begin_statement,
+    begin_statements, resume, undefined,
 };
 use items::{Items, Memory};
-use js_code::Code;
+use js_code::{Code, Node};
 use js_heap::Env;
 use js_value::Value;
 use std::alloc::Global;
 
 // The expression at a place begins.
 fn evaluate(code: &Code, place: usize, env: Env) -> Result<Step, Memory>
-    ensures means { IfOk result (λ step. step_comp (view_of code.now) step ≡ comp_expr ((reader code.now).expr place) Unmarked env.index) }
-    ensures less { IfOk result (λ step. step_weight (view_of code.now) step < weight_expr ((reader code.now).expr place)) }
+    ensures means { IfOk result (λ step. (p : Sources) → step_comp (view_of p code.now) step ≡ comp_expr p ((reader code.now).expr place) env.index) }
+    ensures less { IfOk result (λ step. step_weight (reader code.now) step < weight_expr ((reader code.now).expr place)) }
 {
-    match code.node(place) {
-        Some(node) => begin_expression(node, place, env),
-        None => Ok(null()),
-    }
+    begin_expression(code.node(place), place, env)
 }
 
 // The statement at a place begins.
 fn execute(code: &Code, place: usize, env: Env) -> Step
-    ensures means { step_comp (view_of code.now) result ≡ comp_stmt ((reader code.now).stmt place) Unmarked [] env.index }
-    ensures less { step_weight (view_of code.now) result < weight_stmt ((reader code.now).stmt place) }
+    ensures means { (p : Sources) → step_comp (view_of p code.now) result ≡ comp_stmt p ((reader code.now).stmt place) [] env.index }
+    ensures less { step_weight (reader code.now) result < weight_stmt ((reader code.now).stmt place) }
 {
-    match code.node(place) {
-        Some(node) => begin_statement(node, env),
-        None => undefined(),
-    }
+    begin_statement(code.node(place), place, env)
 }
 
 // The list of statements at a place begins.
 fn execute_all(code: &Code, place: usize, env: Env) -> Step
-    ensures means { step_comp (view_of code.now) result ≡ comp_stmts ((reader code.now).stmts place) Unmarked env.index }
-    ensures less { step_weight (view_of code.now) result < weight_stmts ((reader code.now).stmts place) }
+    ensures means { (p : Sources) → step_comp (view_of p code.now) result ≡ comp_stmts p ((reader code.now).stmts place) env.index }
+    ensures less { step_weight (reader code.now) result < weight_stmts ((reader code.now).stmts place) }
 {
     match code.node(place) {
-        Some(node) => begin_statements(node, env),
-        None => undefined(),
+        Node::MoreStatements { first, rest } => {
+            begin_statements(*first, *rest, code.node(*rest), env)
+        }
+        _ => undefined(),
     }
 }
 
 // The list of declarators at a place begins.
 fn declare(code: &Code, place: usize, env: Env) -> Step
-    ensures means { step_comp (view_of code.now) result ≡ comp_declarators ((reader code.now).declarators place) Unmarked env.index }
-    ensures less { step_weight (view_of code.now) result < weight_declarators ((reader code.now).declarators place) }
+    ensures means { (p : Sources) → step_comp (view_of p code.now) result ≡ comp_declarators p ((reader code.now).declarators place) env.index }
+    ensures less { step_weight (reader code.now) result < weight_declarators ((reader code.now).declarators place) }
 {
-    match code.node(place) {
-        Some(node) => begin_declarators(node, place, env),
-        None => undefined(),
-    }
+    begin_declarators(code.node(place), place, env)
 }
 
 // The list of arguments at a place begins, or the call after them.
@@ -74,19 +68,16 @@ fn gather(
     this: Value,
     done: Items<Value>,
 ) -> Step
-    ensures means { step_comp (view_of code.now) result ≡ comp_arguments ((reader code.now).exprs place) Unmarked env.index callee this done }
-    ensures less { step_weight (view_of code.now) result < weight_exprs ((reader code.now).exprs place) }
+    ensures means { (p : Sources) → step_comp (view_of p code.now) result ≡ comp_arguments p ((reader code.now).exprs place) env.index callee this done }
+    ensures less { step_weight (reader code.now) result < weight_exprs ((reader code.now).exprs place) }
 {
-    match code.node(place) {
-        Some(node) => begin_arguments(node, env, callee, this, done),
-        None => begin_call(callee, this, done),
-    }
+    begin_arguments(code.node(place), env, callee, this, done)
 }
 
 /// Puts a frame on the others where a step has one, and gives what is next.
 pub fn apply(frames: &mut Vec<Frame>, step: Step) -> Result<Control, Memory>
     ensures means { IfOk result (λ control. (t : View) → plug t frames.new.items (control_comp t control) ≡ plug t frames.old.items (step_comp t step)) }
-    ensures weight { IfOk result (λ control. (t : View) → frames_weight t frames.new.items + control_weight t control ≡ frames_weight t frames.old.items + step_weight t step) }
+    ensures weight { IfOk result (λ control. (t : Reader) → frames_weight t frames.new.items + control_weight t control ≡ frames_weight t frames.old.items + step_weight t step) }
 {
     match step {
         Step::Go(control) => Ok(control),
@@ -105,7 +96,7 @@ fn move_on(
     frames: &mut Vec<Frame>,
     control: Control,
 ) -> Result<Move, Memory>
-    ensures { IfOk result (λ to. Moves (view_of code.now) (here frames.old.items control state.old) to frames.new.items state.new) }
+    ensures { IfOk result (λ to. (p : Sources) → Moves (view_of p code.now) (here frames.old.items control state.old) to frames.new.items state.new) }
 {
     let step = match control {
         Control::Evaluate { place, env } => evaluate(code, place, env)?,
@@ -139,7 +130,7 @@ pub fn advance(
     frames: &mut Vec<Frame>,
     control: Control,
 ) -> Result<Rest, Memory>
-    ensures { IfOk result (λ rest. Rests (view_of code.now) (here frames.old.items control state.old) rest frames.new.items state.new) }
+    ensures { IfOk result (λ rest. (p : Sources) → Rests (view_of p code.now) (here frames.old.items control state.old) rest frames.new.items state.new) }
 {
     let mut at = control;
     loop {

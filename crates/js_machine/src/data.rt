@@ -3,20 +3,7 @@ use items::Items;
 use js_heap::Env;
 use js_meaning::Completion;
 use js_tree::BinaryOperator;
-use js_value::{Kind, Object, Value};
-
-/// An error that the machine throws by itself.
-#[derive(Clone, Copy)]
-pub enum Fault {
-    /// A name that isn't declared.
-    NotDefined,
-    /// A name that isn't initialized yet.
-    NotInitialised,
-    /// A name that is constant.
-    NotAssignable,
-    /// What is called is no function.
-    NotCallable,
-}
+use js_value::{Complaint, Kind, Object, Value};
 
 /// What needs the store. A name is told by the place of the node that has it.
 #[derive(Drop)]
@@ -39,7 +26,7 @@ pub enum Action {
         arguments: Items<Value>,
     },
     /// An error is made and thrown.
-    Throw(Fault),
+    Throw(Complaint),
 }
 
 /// What a step is asked for.
@@ -52,18 +39,20 @@ pub enum Entry {
         this: Value,
         arguments: Items<Value>,
     },
-    /// A call of a built-in function.
+    /// A call of a built-in function, which is this object.
     CallBuiltIn {
+        callee: Object,
         function: u32,
         this: Value,
         arguments: Items<Value>,
     },
-    /// A turn of a `while`.
-    WhileTurn {
-        test: usize,
-        body: usize,
+    /// A turn of a loop.
+    Turn {
+        statement: usize,
         env: Env,
     },
+    /// A form that is not in the language yet.
+    Unsaid,
 }
 
 /// What the machine does next. Nodes are told by their places.
@@ -163,10 +152,9 @@ pub enum Pending {
         fails: Option<usize>,
         env: Env,
     },
-    /// The test of a `while`.
+    /// The test of a loop, before a turn.
     Turn {
-        test: usize,
-        body: usize,
+        statement: usize,
         env: Env,
     },
 }
@@ -177,7 +165,7 @@ pub enum Frame {
     /// What waits for a value.
     Value(Pending),
     /// The loop round a body.
-    LoopBody { test: usize, body: usize, env: Env },
+    LoopBody { statement: usize, env: Env },
     /// The file round its statements.
     FileBody,
 }

@@ -1,24 +1,25 @@
 // The beginning of a program, and of a file.
 
-ghost use Rattle.std.specs.Prelude.{◌≡◌, ◌+◌, [], None, IfOk, OnOk, MatchOption, position};
+ghost use Rattle.std.specs.Prelude.{◌≡◌, ◌+◌, ◌∷◌, [], ℕ, List, None, IfOk, OnOk, MatchOption, codes, position};
 ghost use Rattle.std.specs.Str.{bytes_eq};
 ghost use Rattle.js_tree.specs.Plain.{MakeFile, no_stmt};
 ghost use Rattle.js_tree.specs.Tree.{plain_file};
-ghost use Rattle.js_value.specs.Realm.{realm as the_realm};
+ghost use Rattle.js_value.specs.Realm.{opening as the_opening};
 ghost use Rattle.js_value.specs.Objects.{next_object};
-ghost use Rattle.js_value.specs.Environments.{declare as declared};
-ghost use Rattle.js_heap.specs.Heap.{store_of, HoldsEnvironment};
-ghost use Rattle.js_meaning.specs.Files.{declare_all, file_objects, variable, variables};
+ghost use Rattle.js_value.specs.Environments.{declare as declared, next_environment};
+ghost use Rattle.js_heap.specs.Heap.{heap_of, HoldsEnvironment};
+ghost use Rattle.js_meaning.specs.Files.{declare_all, file_environment, file_objects, once, variable, variables};
 ghost use Rattle.js_meaning.specs.Program.{sources_of, source_of, file_at};
-ghost use Rattle.js_machine.specs.private.Opening.{Found, opened_with, opened_environment};
+ghost use Rattle.js_machine.specs.private.Errors.{HoldsErrors};
+ghost use Rattle.js_machine.specs.private.Opening.{Found};
 
 use items::{Items, Memory};
 use js_heap::{Env, Flags, Heap, ObjectKind};
-use js_host::{ascii, global_environment, object_prototype, realm};
+use js_host::{ascii, global_environment, object_at, realm};
 use js_meaning::{Program, ProgramFile};
 use js_scopes::{Checked, ScopeFault, ScopeFaultKind, check};
 use js_tree::{File, Name};
-use js_value::{Object, Primitive, Value};
+use js_value::{Object, Place, Primitive, Value};
 use std::alloc::{AllocError, Global};
 
 /// The place of the file at the path among some.
@@ -40,11 +41,13 @@ pub fn file_of<'a>(program: &'a Program, path: &str) -> Option<&'a ProgramFile>
     }
 }
 
-/// What a file of these `var` names begins with: the opening realm with its objects, and its
-/// environment.
+/// What a file begins with that declares these names by `var`, each told once: the opening realm with
+/// the file's objects, and its environment.
 pub fn heap_of_file(alloc: Global, names: &[Name]) -> Result<(Heap, Env), Memory>
-    ensures heap { IfOk result (λ made. store_of made.0 ≡ opened_with names.now) }
-    ensures environment { IfOk result (λ made. made.1.index ≡ opened_environment) }
+    ensures heap { IfOk result (λ made. (declared : List (List ℕ)) → names.now ≡ once (codes "exports" ∷ codes "module" ∷ []) declared →
+        heap_of made.0 ≡ file_environment (next_object the_opening) declared (file_objects the_opening)) }
+    ensures environment { IfOk result (λ made. made.1.index ≡ next_environment the_opening) }
+    ensures errors { IfOk result (λ made. HoldsErrors (heap_of made.0)) }
 {
     let mut heap = realm(alloc)?;
     let (exports, module) = make_objects(alloc, &mut heap)?;
@@ -57,13 +60,13 @@ pub fn heap_of_file(alloc: Global, names: &[Name]) -> Result<(Heap, Env), Memory
 
 /// Makes the objects `exports` and `module` of a file.
 fn make_objects(alloc: Global, heap: &mut Heap) -> Result<(Object, Object), Memory>
-    requires { store_of heap.old ≡ the_realm }
-    ensures made { OnOk result (store_of heap.new ≡ file_objects the_realm) }
-    ensures exports { IfOk result (λ made. made.0.index ≡ next_object the_realm) }
-    ensures module_object { IfOk result (λ made. made.1.index ≡ next_object the_realm + 1) }
+    requires { heap_of heap.old ≡ the_opening }
+    ensures made { OnOk result (heap_of heap.new ≡ file_objects the_opening) }
+    ensures exports { IfOk result (λ made. made.0.index ≡ next_object the_opening) }
+    ensures module_object { IfOk result (λ made. made.1.index ≡ next_object the_opening + 1) }
 {
-    let exports = heap.object(ObjectKind::Plain, Some(object_prototype()))?;
-    let module = heap.object(ObjectKind::Plain, Some(object_prototype()))?;
+    let exports = heap.object(ObjectKind::Plain, Some(object_at(Place::ObjectPrototype)))?;
+    let module = heap.object(ObjectKind::Plain, Some(object_at(Place::ObjectPrototype)))?;
     let flags = Flags {
         enumerable: true,
         writable: true,
@@ -75,8 +78,8 @@ fn make_objects(alloc: Global, heap: &mut Heap) -> Result<(Object, Object), Memo
 
 /// Declares a name of the environment that may be assigned to.
 fn declare(alloc: Global, heap: &mut Heap, env: Env, name: &str, value: Value) -> Result<(), Memory>
-    requires { HoldsEnvironment (store_of heap.old) env.index }
-    ensures { OnOk result (store_of heap.new ≡ declared env.index (variable name.now value) (store_of heap.old)) }
+    requires { HoldsEnvironment (heap_of heap.old) env.index }
+    ensures { OnOk result (heap_of heap.new ≡ declared env.index (variable name.now value) (heap_of heap.old)) }
 {
     heap.declare(env, &Name::from_str(alloc, name)?, Some(value), false)?;
     Ok(())
@@ -84,8 +87,8 @@ fn declare(alloc: Global, heap: &mut Heap, env: Env, name: &str, value: Value) -
 
 /// Declares names of the environment, each with the value undefined.
 fn declare_names(heap: &mut Heap, env: Env, names: &[Name]) -> Result<(), Memory>
-    requires { HoldsEnvironment (store_of heap.old) env.index }
-    ensures { OnOk result (store_of heap.new ≡ declare_all env.index (variables names.now) (store_of heap.old)) }
+    requires { HoldsEnvironment (heap_of heap.old) env.index }
+    ensures { OnOk result (heap_of heap.new ≡ declare_all env.index (variables names.now) (heap_of heap.old)) }
 {
     for name in names {
         heap.declare(

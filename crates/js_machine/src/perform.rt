@@ -1,71 +1,76 @@
-// What is done to the store.
+// What is done to the heap.
 
-ghost use Rattle.std.specs.Prelude.{◌≡◌, ◌<◌, [], IfOk, OnOk, MatchOption, codes};
+ghost use Rattle.std.specs.Prelude.{◌≡◌, ◌<◌, [], IfOk, OnOk, MatchOption};
 ghost use Rattle.js_value.specs.State.{Store};
 ghost use Rattle.js_value.specs.Objects.{kind_of, next_object};
+ghost use Rattle.js_value.specs.Host as host;
 ghost use Rattle.js_value.specs.Realm.{object as object_of};
 ghost use Rattle.js_code.specs.Code.{node_at};
-ghost use Rattle.js_value.specs.Environments.{lookup as store_lookup};
-ghost use Rattle.js_heap.specs.Heap.{store_of, HoldsEnvironment, HoldsObject};
+ghost use Rattle.js_value.specs.Environments.{lookup as heap_lookup};
+ghost use Rattle.js_heap.specs.Heap.{heap_of, HoldsEnvironment, HoldsObject};
+ghost use Rattle.js_meaning.specs.Program.{Sources};
+ghost use Rattle.js_meaning.specs.Meaning as meaning;
 ghost use Rattle.js_meaning.specs.Meaning.{value_in, call_kind};
 ghost use Rattle.js_machine.specs.private.Config.{View, view_of, name_of, action_comp, action_weight, control_comp, control_weight};
-ghost use Rattle.js_machine.specs.private.Done.{Assigned, Thrown, error_made, fault_kind, fault_message};
 ghost use Rattle.js_machine.specs.private.Errors.{HoldsErrors};
-ghost use Rattle.js_machine.specs.private.State.{store_in, Becomes};
+ghost use Rattle.js_machine.specs.private.State.{store_in, with_heap, Becomes};
+ghost use Rattle.js_code.specs.Node.{Reader};
 
-use crate::data::{Action, Control, Entry, Fault};
+use crate::data::{Action, Control, Entry};
 use crate::state::State;
 use items::{Items, Memory};
 use js_code::{Code, Node};
 use js_heap::{Assign, Env, Flags, Heap, ObjectKind};
-use js_host::{ascii, error_prototype};
+use js_host::{ascii, error_of, error_prototype, message_of};
 use js_meaning::Completion;
 use js_tree::Name;
-use js_value::{ErrorKind, Object, Primitive, Str, Value};
+use js_value::{Complaint, ErrorKind, Object, Primitive, Str, Value};
 use std::alloc::Global;
 
 // The value of a name, or the error that there is none.
-pub(crate) fn read(heap: &Heap, name: &Name, env: Env) -> Result<Control, Memory>
-    requires { HoldsEnvironment (store_of heap.now) env.index }
+fn read(heap: &Heap, name: &Name, env: Env) -> Result<Control, Memory>
+    requires { HoldsEnvironment (heap_of heap.now) env.index }
     ensures means { IfOk result (λ control. (t : View) → control_comp t control
-        ≡ value_in (store_of heap.now) (store_lookup (store_of heap.now) env.index name.now)) }
-    ensures less { IfOk result (λ control. (t : View) → control_weight t control < 3) }
+        ≡ value_in (heap_of heap.now) (heap_lookup (heap_of heap.now) env.index name.now)) }
+    ensures less { IfOk result (λ control. (t : Reader) → control_weight t control < 3) }
 {
     match heap.lookup(env, name) {
         Some(cell) => match heap.value_of(cell) {
             Some(value) => Ok(Control::Give(Completion::Normal(value.copy()?))),
-            None => Ok(Control::Do(Action::Throw(Fault::NotInitialised))),
+            None => Ok(Control::Do(Action::Throw(Complaint::NotInitialised))),
         },
-        None => Ok(Control::Do(Action::Throw(Fault::NotDefined))),
+        None => Ok(Control::Do(Action::Throw(Complaint::NotDefined))),
     }
 }
 
 // A value for a name, or the error that it has no cell for it or may not take it.
-pub(crate) fn write(heap: &mut Heap, name: &Name, env: Env, value: Value) -> Result<Control, Memory>
-    requires { HoldsEnvironment (store_of heap.old) env.index }
-    ensures means { IfOk result (λ control. (t : View) → Assigned value name.now env.index (store_of heap.old) (store_of heap.new) (control_comp t control)) }
-    ensures objects { (store_of heap.new).objects ≡ (store_of heap.old).objects }
-    ensures less { IfOk result (λ control. (t : View) → control_weight t control < 3) }
+fn write(heap: &mut Heap, name: &Name, env: Env, value: Value) -> Result<Control, Memory>
+    requires { HoldsEnvironment (heap_of heap.old) env.index }
+    ensures means { IfOk result (λ control. (t : View) (base : Store) →
+        Becomes (meaning.write name.now env.index value) (with_heap base heap.old) (control_comp t control) (with_heap base heap.new)) }
+    ensures objects { (heap_of heap.new).objects ≡ (heap_of heap.old).objects }
+    ensures less { IfOk result (λ control. (t : Reader) → control_weight t control < 3) }
 {
     let Some(cell) = heap.lookup(env, name) else {
-        return Ok(Control::Do(Action::Throw(Fault::NotDefined)));
+        return Ok(Control::Do(Action::Throw(Complaint::NotDefined)));
     };
     let given = value.copy()?;
     match heap.assign(cell, value) {
         Assign::Done => Ok(Control::Give(Completion::Normal(given))),
-        Assign::Dead => Ok(Control::Do(Action::Throw(Fault::NotInitialised))),
-        Assign::Constant => Ok(Control::Do(Action::Throw(Fault::NotAssignable))),
+        Assign::Dead => Ok(Control::Do(Action::Throw(Complaint::NotInitialised))),
+        Assign::Constant => Ok(Control::Do(Action::Throw(Complaint::NotAssignable))),
     }
 }
 
 // A call of an object: what is no function is not callable.
-pub(crate) fn call(heap: &Heap, callee: Object, this: Value, arguments: Items<Value>) -> Control
-    requires { HoldsObject (store_of heap.now) callee.index }
-    ensures means { (t : View) → control_comp t result ≡ call_kind (kind_of (store_of heap.now) callee.index) this arguments }
-    ensures less { (t : View) → control_weight t result < 3 }
+fn call(heap: &Heap, callee: Object, this: Value, arguments: Items<Value>) -> Control
+    requires { HoldsObject (heap_of heap.now) callee.index }
+    ensures means { (t : View) → control_comp t result ≡ call_kind (kind_of (heap_of heap.now) callee.index) callee.index this arguments }
+    ensures less { (t : Reader) → control_weight t result < 3 }
 {
     match heap.kind(callee) {
         ObjectKind::BuiltIn(function) => Control::Enter(Entry::CallBuiltIn {
+            callee,
             function: *function,
             this,
             arguments,
@@ -77,36 +82,24 @@ pub(crate) fn call(heap: &Heap, callee: Object, this: Value, arguments: Items<Va
             arguments,
         }),
         ObjectKind::Plain | ObjectKind::Array | ObjectKind::Error | ObjectKind::RegExp => {
-            Control::Do(Action::Throw(Fault::NotCallable))
+            Control::Do(Action::Throw(Complaint::NotAFunction))
         }
     }
 }
 
-// The kind and the message of an error.
-fn told(fault: Fault) -> (ErrorKind, &'static [u8])
-    ensures kind { result.0 ≡ fault_kind fault }
-    ensures message { result.1.now ≡ fault_message fault }
-{
-    match fault {
-        Fault::NotDefined => (ErrorKind::ReferenceError, b"not defined"),
-        Fault::NotInitialised => (ErrorKind::ReferenceError, b"not initialised"),
-        Fault::NotAssignable => (ErrorKind::TypeError, b"constant"),
-        Fault::NotCallable => (ErrorKind::TypeError, b"not a function"),
-    }
-}
-
 // Makes an error with this message: the object is that of the next number.
-pub(crate) fn make_error(
+fn make_error(
+    alloc: Global,
     heap: &mut Heap,
     kind: ErrorKind,
-    key: &Str,
     message: Str,
 ) -> Result<Object, Memory>
-    requires { HoldsErrors (store_of heap.old) }
-    ensures errors { HoldsErrors (store_of heap.new) }
-    ensures made { OnOk result (store_of heap.new ≡ error_made kind key.now message (store_of heap.old)) }
-    ensures object { IfOk result (λ object. object.index ≡ next_object (store_of heap.old)) }
+    requires { HoldsErrors (heap_of heap.old) }
+    ensures errors { HoldsErrors (heap_of heap.new) }
+    ensures made { OnOk result (heap_of heap.new ≡ meaning.make_error kind message (heap_of heap.old)) }
+    ensures object { IfOk result (λ object. object.index ≡ next_object (heap_of heap.old)) }
 {
+    let key = ascii(alloc, b"message")?;
     let object = heap.object(ObjectKind::Error, Some(error_prototype(kind)))?;
     let flags = Flags {
         enumerable: false,
@@ -114,58 +107,49 @@ pub(crate) fn make_error(
     };
     heap.define(
         object,
-        key,
+        &key,
         Value::Primitive(Primitive::Text(message)),
         flags,
     )?;
     Ok(object)
 }
 
-// The same, where the environment may be none of this heap: then no name is found.
-pub(crate) fn read_anywhere(heap: &Heap, name: &Name, env: Env) -> Result<Control, Memory>
+// The value of a name, where the environment may be none of this heap: then no name is found.
+fn read_anywhere(heap: &Heap, name: &Name, env: Env) -> Result<Control, Memory>
     ensures means { IfOk result (λ control. (t : View) → control_comp t control
-        ≡ value_in (store_of heap.now) (store_lookup (store_of heap.now) env.index name.now)) }
-    ensures less { IfOk result (λ control. (t : View) → control_weight t control < 3) }
+        ≡ value_in (heap_of heap.now) (heap_lookup (heap_of heap.now) env.index name.now)) }
+    ensures less { IfOk result (λ control. (t : Reader) → control_weight t control < 3) }
 {
     if heap.holds_environment(env) {
         read(heap, name, env)
     } else {
-        Ok(Control::Do(Action::Throw(Fault::NotDefined)))
+        Ok(Control::Do(Action::Throw(Complaint::NotDefined)))
     }
 }
 
 // The same of a write.
-pub(crate) fn write_anywhere(
-    heap: &mut Heap,
-    name: &Name,
-    env: Env,
-    value: Value,
-) -> Result<Control, Memory>
-    ensures means { IfOk result (λ control. (t : View) → Assigned value name.now env.index (store_of heap.old) (store_of heap.new) (control_comp t control)) }
-    ensures objects { (store_of heap.new).objects ≡ (store_of heap.old).objects }
-    ensures less { IfOk result (λ control. (t : View) → control_weight t control < 3) }
+fn write_anywhere(heap: &mut Heap, name: &Name, env: Env, value: Value) -> Result<Control, Memory>
+    ensures means { IfOk result (λ control. (t : View) (base : Store) →
+        Becomes (meaning.write name.now env.index value) (with_heap base heap.old) (control_comp t control) (with_heap base heap.new)) }
+    ensures objects { (heap_of heap.new).objects ≡ (heap_of heap.old).objects }
+    ensures less { IfOk result (λ control. (t : Reader) → control_weight t control < 3) }
 {
     if heap.holds_environment(env) {
         write(heap, name, env, value)
     } else {
-        Ok(Control::Do(Action::Throw(Fault::NotDefined)))
+        Ok(Control::Do(Action::Throw(Complaint::NotDefined)))
     }
 }
 
 // The same of a call: what is no object of this heap is not callable.
-pub(crate) fn call_anything(
-    heap: &Heap,
-    callee: Object,
-    this: Value,
-    arguments: Items<Value>,
-) -> Control
-    ensures means { (t : View) → control_comp t result ≡ call_kind (kind_of (store_of heap.now) callee.index) this arguments }
-    ensures less { (t : View) → control_weight t result < 3 }
+fn call_anything(heap: &Heap, callee: Object, this: Value, arguments: Items<Value>) -> Control
+    ensures means { (t : View) → control_comp t result ≡ call_kind (kind_of (heap_of heap.now) callee.index) callee.index this arguments }
+    ensures less { (t : Reader) → control_weight t result < 3 }
 {
     if heap.holds_object(callee) {
         call(heap, callee, this, arguments)
     } else {
-        Control::Do(Action::Throw(Fault::NotCallable))
+        Control::Do(Action::Throw(Complaint::NotAFunction))
     }
 }
 
@@ -173,7 +157,7 @@ pub(crate) fn call_anything(
 fn name_at(code: &Code, place: usize) -> Option<&Name>
     ensures { MatchOption result (name_of (node_at code.now place) ≡ []) (λ name. name.now ≡ name_of (node_at code.now place)) }
 {
-    match code.node(place)? {
+    match code.node(place) {
         Node::IdentifierReference { loc: _, name } => Some(name),
         Node::Assignment {
             loc: _,
@@ -201,8 +185,8 @@ fn read_at(
     env: Env,
 ) -> Result<Control, Memory>
     ensures means { IfOk result (λ control. (t : View) → control_comp t control
-        ≡ value_in (store_of heap.now) (store_lookup (store_of heap.now) env.index (name_of (node_at code.now place)))) }
-    ensures less { IfOk result (λ control. (t : View) → control_weight t control < 3) }
+        ≡ value_in (heap_of heap.now) (heap_lookup (heap_of heap.now) env.index (name_of (node_at code.now place)))) }
+    ensures less { IfOk result (λ control. (t : Reader) → control_weight t control < 3) }
 {
     match name_at(code, place) {
         Some(name) => read_anywhere(heap, name, env),
@@ -222,10 +206,10 @@ fn write_at(
     env: Env,
     value: Value,
 ) -> Result<Control, Memory>
-    ensures means { IfOk result (λ control. (t : View) →
-        Assigned value (name_of (node_at code.now place)) env.index (store_of heap.old) (store_of heap.new) (control_comp t control)) }
-    ensures objects { (store_of heap.new).objects ≡ (store_of heap.old).objects }
-    ensures less { IfOk result (λ control. (t : View) → control_weight t control < 3) }
+    ensures means { IfOk result (λ control. (t : View) (base : Store) →
+        Becomes (meaning.write (name_of (node_at code.now place)) env.index value) (with_heap base heap.old) (control_comp t control) (with_heap base heap.new)) }
+    ensures objects { (heap_of heap.new).objects ≡ (heap_of heap.old).objects }
+    ensures less { IfOk result (λ control. (t : Reader) → control_weight t control < 3) }
 {
     match name_at(code, place) {
         Some(name) => write_anywhere(heap, name, env, value),
@@ -236,47 +220,45 @@ fn write_at(
     }
 }
 
-// Makes an error with this message and throws it.
-pub(crate) fn throw_error(
+/// Makes an error with this message and throws it.
+pub fn throw_error(
     alloc: Global,
     heap: &mut Heap,
     kind: ErrorKind,
     message: Str,
 ) -> Result<Control, Memory>
-    requires { HoldsErrors (store_of heap.old) }
-    ensures made { OnOk result (store_of heap.new
-        ≡ error_made kind (codes "message") message (store_of heap.old)) }
-    ensures control { IfOk result (λ control. control ≡ Control.Give (Completion.Throw (object_of (next_object (store_of heap.old))))) }
-    ensures errors { HoldsErrors (store_of heap.new) }
+    requires { HoldsErrors (heap_of heap.old) }
+    ensures made { OnOk result (heap_of heap.new ≡ meaning.make_error kind message (heap_of heap.old)) }
+    ensures control { IfOk result (λ control. control ≡ Control.Give (Completion.Throw (object_of (next_object (heap_of heap.old))))) }
+    ensures errors { HoldsErrors (heap_of heap.new) }
 {
-    let key = ascii(alloc, b"message")?;
-    let object = make_error(heap, kind, &key, message)?;
+    let object = make_error(alloc, heap, kind, message)?;
     Ok(Control::Give(Completion::Throw(Value::Object(object))))
 }
 
-// Makes the error of a fault and throws it.
-fn throw(alloc: Global, heap: &mut Heap, fault: Fault) -> Result<Control, Memory>
-    requires { HoldsErrors (store_of heap.old) }
-    ensures made { OnOk result (Thrown fault (store_of heap.old) (store_of heap.new)) }
-    ensures control { IfOk result (λ control. control ≡ Control.Give (Completion.Throw (object_of (next_object (store_of heap.old))))) }
-    ensures errors { HoldsErrors (store_of heap.new) }
+// Throws the error of a complaint.
+fn throw(alloc: Global, heap: &mut Heap, complaint: Complaint) -> Result<Control, Memory>
+    requires { HoldsErrors (heap_of heap.old) }
+    ensures made { OnOk result (heap_of heap.new
+        ≡ meaning.make_error (host.error_of complaint) (host.message_of complaint) (heap_of heap.old)) }
+    ensures control { IfOk result (λ control. control ≡ Control.Give (Completion.Throw (object_of (next_object (heap_of heap.old))))) }
+    ensures errors { HoldsErrors (heap_of heap.new) }
 {
-    let (kind, message) = told(fault);
-    let message = ascii(alloc, message)?;
-    throw_error(alloc, heap, kind, message)
+    let message = message_of(alloc, complaint)?;
+    throw_error(alloc, heap, error_of(complaint), message)
 }
 
-/// Does what needs the store.
+/// Does what needs the heap.
 pub fn perform(
     alloc: Global,
     code: &Code,
     state: &mut State,
     action: Action,
 ) -> Result<Control, Memory>
-    ensures becomes { IfOk result (λ control. (base : Store) →
-        Becomes (action_comp (view_of code.now) action) (store_in base state.old)
-        (control_comp (view_of code.now) control) (store_in base state.new)) }
-    ensures less { IfOk result (λ control. (t : View) → control_weight t control < action_weight action) }
+    ensures becomes { IfOk result (λ control. (p : Sources) (base : Store) →
+        Becomes (action_comp (view_of p code.now) action) (store_in base state.old)
+        (control_comp (view_of p code.now) control) (store_in base state.new)) }
+    ensures less { IfOk result (λ control. (t : Reader) → control_weight t control < action_weight action) }
 {
     match action {
         Action::Read { name, env } => read_at(alloc, code, &state.heap, name, env),
@@ -293,6 +275,6 @@ pub fn perform(
             this,
             arguments,
         } => Ok(call_anything(&state.heap, callee, this, arguments)),
-        Action::Throw(fault) => throw(alloc, &mut state.heap, fault),
+        Action::Throw(complaint) => throw(alloc, &mut state.heap, complaint),
     }
 }

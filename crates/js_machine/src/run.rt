@@ -23,14 +23,14 @@ pub fn run_on(
     control: Control,
     steps: u64,
 ) -> Result<Rest, Memory>
-    ensures { IfOk result (λ rest. (p : Sources) → Runs p (view_of code.now) steps
+    ensures { IfOk result (λ rest. (p : Sources) → Runs p (view_of p code.now) steps
         (here frames.old.items control state.old) rest (here frames.new.items (rest_control rest) state.new)) }
 {
     let mut at = control;
     for _ in 0..steps {
         match advance(alloc, code, state, frames, at)? {
             Rest::Asks(entry) => {
-                let step = enter(alloc, state, entry)?;
+                let step = enter(alloc, code, state, entry)?;
                 at = apply(frames, step)?;
             }
             rest => return Ok(rest),

@@ -2,6 +2,7 @@
 
 ghost use Rattle.std.specs.Prelude.{◌≡◌, IfOk};
 ghost use Rattle.js_value.specs.State.{Store};
+ghost use Rattle.js_heap.specs.Heap.{heap_of};
 ghost use Rattle.js_meaning.specs.World.{end_of as end_of_outcome, end_of_completion as completion_end};
 ghost use Rattle.js_machine.specs.private.Moves.{rest_control as control_of};
 ghost use Rattle.js_machine.specs.private.Runs.{rest_outcome};
@@ -27,7 +28,7 @@ pub fn end_of(alloc: Global, state: &State, rest: &Rest) -> Result<End, Memory>
 
 // The end of a program that completed: an exception is shown, and all else is the same end.
 fn end_of_completion(alloc: Global, state: &State, completion: &Completion) -> Result<End, Memory>
-    ensures { IfOk result (λ end. (began : Store) → end ≡ completion_end (store_in began state.now) completion.now) }
+    ensures { IfOk result (λ end. end ≡ completion_end (heap_of state.now.heap) completion.now) }
 {
     match completion {
         Completion::Throw(value) => Ok(End::Threw(shown(alloc, &state.heap, value)?)),

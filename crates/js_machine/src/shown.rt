@@ -6,7 +6,7 @@ ghost use Rattle.js_value.specs.Objects.{kind_of, get};
 ghost use Rattle.js_value.specs.Operators.{to_text as texted, Reads, NoText};
 ghost use Rattle.js_value.specs.declared.value.Kind.{Kind};
 ghost use Rattle.js_heap.specs.Object.{plain_kind};
-ghost use Rattle.js_heap.specs.Heap.{store_of, HoldsObject};
+ghost use Rattle.js_heap.specs.Heap.{heap_of, HoldsObject};
 ghost use Rattle.js_meaning.specs.World as spec;
 ghost use Rattle.js_meaning.specs.World.{shown_kind, titled};
 
@@ -20,7 +20,7 @@ use std::alloc::{AllocError, Global};
 /// The bytes that are shown of a value: the text of a primitive, the word `object` or `function`, or
 /// for an error its name and its message.
 pub fn shown(alloc: Global, heap: &Heap, value: &Value) -> Result<Shown, Memory>
-    ensures { IfOk result (λ bytes. bytes ≡ spec.shown (store_of heap.now) value.now) }
+    ensures { IfOk result (λ bytes. bytes ≡ spec.shown (heap_of heap.now) value.now) }
 {
     let units = shown_units(alloc, heap, value)?;
     utf8_of(alloc, units.as_slice())
@@ -28,7 +28,7 @@ pub fn shown(alloc: Global, heap: &Heap, value: &Value) -> Result<Shown, Memory>
 
 // The same as 16-bit units.
 fn shown_units(alloc: Global, heap: &Heap, value: &Value) -> Result<Str, Memory>
-    ensures { IfOk result (λ units. units ≡ spec.shown_units (store_of heap.now) value.now) }
+    ensures { IfOk result (λ units. units ≡ spec.shown_units (heap_of heap.now) value.now) }
 {
     match value {
         Value::Primitive(_) => primitive_text(alloc, value),
@@ -38,7 +38,7 @@ fn shown_units(alloc: Global, heap: &Heap, value: &Value) -> Result<Str, Memory>
 
 // What is shown of an object.
 fn shown_object(alloc: Global, heap: &Heap, object: Object) -> Result<Str, Memory>
-    ensures { IfOk result (λ units. units ≡ spec.shown_object (store_of heap.now) object.index (kind_of (store_of heap.now) object.index)) }
+    ensures { IfOk result (λ units. units ≡ spec.shown_object (heap_of heap.now) object.index (kind_of (heap_of heap.now) object.index)) }
 {
     if !heap.holds_object(object) {
         return ascii(alloc, b"object");
@@ -51,9 +51,9 @@ fn shown_object(alloc: Global, heap: &Heap, object: Object) -> Result<Str, Memor
 
 // What is shown of an error: its name, and its message where that isn't empty.
 fn shown_error(alloc: Global, heap: &Heap, object: Object) -> Result<Str, Memory>
-    requires { HoldsObject (store_of heap.now) object.index }
-    ensures { IfOk result (λ units. units ≡ titled (spec.shown_part (store_of heap.now) (get (store_of heap.now) object.index (codes "name")))
-        (spec.shown_part (store_of heap.now) (get (store_of heap.now) object.index (codes "message")))) }
+    requires { HoldsObject (heap_of heap.now) object.index }
+    ensures { IfOk result (λ units. units ≡ titled (spec.shown_part (heap_of heap.now) (get (heap_of heap.now) object.index (codes "name")))
+        (spec.shown_part (heap_of heap.now) (get (heap_of heap.now) object.index (codes "message")))) }
 {
     let name = shown_part(alloc, heap, heap.get(object, &ascii(alloc, b"name")?))?;
     let message = shown_part(alloc, heap, heap.get(object, &ascii(alloc, b"message")?))?;
@@ -62,7 +62,7 @@ fn shown_error(alloc: Global, heap: &Heap, object: Object) -> Result<Str, Memory
 
 // What is shown of a part of an error.
 fn shown_part(alloc: Global, heap: &Heap, part: Option<&Value>) -> Result<Str, Memory>
-    ensures { IfOk result (λ units. units ≡ spec.shown_part (store_of heap.now) (option_copied part.entry)) }
+    ensures { IfOk result (λ units. units ≡ spec.shown_part (heap_of heap.now) (option_copied part.entry)) }
 {
     match part {
         None => ascii(alloc, b"undefined"),
@@ -73,7 +73,7 @@ fn shown_part(alloc: Global, heap: &Heap, part: Option<&Value>) -> Result<Str, M
 
 // The word that is shown of an object that is a part of an error.
 fn shown_word(alloc: Global, heap: &Heap, object: Object) -> Result<Str, Memory>
-    ensures { IfOk result (λ units. units ≡ shown_kind (kind_of (store_of heap.now) object.index)) }
+    ensures { IfOk result (λ units. units ≡ shown_kind (kind_of (heap_of heap.now) object.index)) }
 {
     if heap.holds_object(object) {
         ascii(alloc, kind_word(heap.kind(object)))

@@ -1,4 +1,4 @@
-ghost use Rattle.js_heap.specs.Heap.{store_of};
+ghost use Rattle.js_heap.specs.Heap.{heap_of};
 ghost use Rattle.js_machine.specs.private.Errors.{HoldsErrors};
 
 use js_heap::Heap;
@@ -10,5 +10,5 @@ pub struct State {
     pub heap: Heap,
     /// What it printed.
     pub output: Vec<u8>,
-    ghost errors: { HoldsErrors (store_of heap) },
+    ghost errors: { HoldsErrors (heap_of heap) },
 }

@@ -1,20 +1,20 @@
 // What each node begins with, and how what waits goes on.
 
 ghost use Rattle.std.specs.Prelude.{◌≡◌, ◌<◌, [], IfOk};
-ghost use Rattle.js_code.specs.Node.{build_expr, build_exprs, build_stmt, build_stmts, build_declarators};
-ghost use Rattle.js_meaning.specs.Marks.{Unmarked};
+ghost use Rattle.js_tree.specs.Plain.{more_stmt};
+ghost use Rattle.js_code.specs.Node.{Reader, build_expr, build_exprs, build_stmt, build_stmts, build_declarators};
 ghost use Rattle.js_meaning.specs.Meaning.{number as number_comp, call, comp_expr, comp_arguments, comp_declarators, comp_stmt, comp_stmts, operated};
 ghost use Rattle.js_value.specs.Operators.{has_answer};
 ghost use Rattle.js_machine.specs.private.Weight.{weight_expr, weight_exprs, weight_declarators, weight_stmt, weight_stmts};
 ghost use Rattle.js_machine.specs.private.Config.{View, name_of, step_comp, step_weight, control_comp, control_weight, pending_comp, pending_weight, frame_comp, frame_weight};
 
-use crate::data::{Action, Control, Entry, Fault, Frame, Pending, Step};
+use crate::data::{Action, Control, Entry, Frame, Pending, Step};
 use items::{Items, Memory};
 use js_code::Node;
 use js_heap::Env;
 use js_meaning::Completion;
 use js_tree::BinaryOperator;
-use js_value::{Kind, OpFault, Primitive, Value, binary, to_boolean};
+use js_value::{Complaint, Kind, OpFault, Primitive, Value, binary, to_boolean};
 use std::alloc::{AllocError, Global};
 
 // One frame more, which waits for a value.
@@ -52,18 +52,18 @@ pub fn undefined() -> Step
     primitive(Primitive::Undefined)
 }
 
-/// The value null for what waits.
-pub fn null() -> Step
-    ensures { result ≡ Step.Go (Control.Give (Completion.Normal (Value.Primitive Primitive.Null))) }
+/// A step for what is not in the language yet.
+pub fn unsaid() -> Step
+    ensures { result ≡ Step.Go (Control.Enter Entry.Unsaid) }
 {
-    primitive(Primitive::Null)
+    Step::Go(Control::Enter(Entry::Unsaid))
 }
 
 /// An expression begins.
 pub fn begin_expression(node: &Node, place: usize, env: Env) -> Result<Step, Memory>
     ensures means { IfOk result (λ step. (t : View) → t.name place ≡ name_of node.now →
-        step_comp t step ≡ comp_expr (build_expr t.tree node.now) Unmarked env.index) }
-    ensures less { IfOk result (λ step. (t : View) → step_weight t step < weight_expr (build_expr t.tree node.now)) }
+        step_comp t step ≡ comp_expr t.program (build_expr t.tree node.now) env.index) }
+    ensures less { IfOk result (λ step. (t : Reader) → step_weight t step < weight_expr (build_expr t node.now)) }
 {
     match node {
         Node::IdentifierReference { loc: _, name: _ } => {
@@ -126,7 +126,7 @@ pub fn begin_expression(node: &Node, place: usize, env: Env) -> Result<Step, Mem
 // A number, or the refusal of one that is out of range.
 fn number(number: Option<i64>) -> Step
     ensures means { (t : View) → step_comp t result ≡ number_comp number }
-    ensures less { (t : View) → step_weight t result ≡ 0 }
+    ensures less { (t : Reader) → step_weight t result ≡ 0 }
 {
     match number {
         Some(number) => primitive(Primitive::Number(number)),
@@ -143,8 +143,8 @@ pub fn begin_arguments(
     done: Items<Value>,
 ) -> Step
     ensures means { (t : View) → step_comp t result
-        ≡ comp_arguments (build_exprs t.tree node.now) Unmarked env.index callee this done }
-    ensures less { (t : View) → step_weight t result < weight_exprs (build_exprs t.tree node.now) }
+        ≡ comp_arguments t.program (build_exprs t.tree node.now) env.index callee this done }
+    ensures less { (t : Reader) → step_weight t result < weight_exprs (build_exprs t node.now) }
 {
     match node {
         Node::MoreExpressions { first, rest } => {
@@ -161,10 +161,10 @@ pub fn begin_arguments(
     }
 }
 
-/// A call of a value.
-pub fn begin_call(callee: Value, this: Value, arguments: Items<Value>) -> Step
+// A call of a value.
+fn begin_call(callee: Value, this: Value, arguments: Items<Value>) -> Step
     ensures means { (t : View) → step_comp t result ≡ call callee this arguments }
-    ensures less { (t : View) → step_weight t result < 5 }
+    ensures less { (t : Reader) → step_weight t result < 5 }
 {
     match callee {
         Value::Object(callee) => Step::Go(Control::Do(Action::Call {
@@ -172,14 +172,15 @@ pub fn begin_call(callee: Value, this: Value, arguments: Items<Value>) -> Step
             this,
             arguments,
         })),
-        Value::Primitive(_) => Step::Go(Control::Do(Action::Throw(Fault::NotCallable))),
+        Value::Primitive(_) => Step::Go(Control::Do(Action::Throw(Complaint::NotAFunction))),
     }
 }
 
-/// A statement begins.
-pub fn begin_statement(node: &Node, env: Env) -> Step
-    ensures means { (t : View) → step_comp t result ≡ comp_stmt (build_stmt t.tree node.now) Unmarked [] env.index }
-    ensures less { (t : View) → step_weight t result < weight_stmt (build_stmt t.tree node.now) }
+/// The statement at a place begins.
+pub fn begin_statement(node: &Node, place: usize, env: Env) -> Step
+    ensures means { (t : View) → t.tree.stmt place ≡ build_stmt t.tree node.now →
+        step_comp t result ≡ comp_stmt t.program (build_stmt t.tree node.now) [] env.index }
+    ensures less { (t : Reader) → step_weight t result < weight_stmt (build_stmt t node.now) }
 {
     match node {
         Node::Block { loc: _, statements } => Step::Go(Control::ExecuteAll {
@@ -217,40 +218,42 @@ pub fn begin_statement(node: &Node, env: Env) -> Step
             };
             wait(pending, Control::Evaluate { place: *test, env })
         }
-        Node::While { loc: _, test, body } => test_loop(*test, *body, env),
+        Node::While {
+            loc: _,
+            test,
+            body: _,
+        } => {
+            let pending = Pending::Turn {
+                statement: place,
+                env,
+            };
+            wait(pending, Control::Evaluate { place: *test, env })
+        }
         _ => primitive(Primitive::Undefined),
     }
 }
 
-// The test of a loop, and then perhaps a turn.
-fn test_loop(test: usize, body: usize, env: Env) -> Step
-    ensures { result ≡ Step.Push (Frame.Value (Pending.Turn test body env)) (Control.Evaluate test env) }
+/// Statements begin, before what stands after the first of them: the only one of a list begins by
+/// itself.
+pub fn begin_statements(first: usize, rest: usize, after: &Node, env: Env) -> Step
+    ensures means { (t : View) → t.tree.stmts rest ≡ build_stmts t.tree after.now →
+        step_comp t result ≡ comp_stmts t.program (more_stmt (t.tree.stmt first) (t.tree.stmts rest)) env.index }
+    ensures less { (t : Reader) → step_weight t result < weight_stmts (more_stmt (t.stmt first) (t.stmts rest)) }
 {
-    wait(
-        Pending::Turn { test, body, env },
-        Control::Evaluate { place: test, env },
-    )
-}
-
-/// A list of statements begins.
-pub fn begin_statements(node: &Node, env: Env) -> Step
-    ensures means { (t : View) → step_comp t result ≡ comp_stmts (build_stmts t.tree node.now) Unmarked env.index }
-    ensures less { (t : View) → step_weight t result < weight_stmts (build_stmts t.tree node.now) }
-{
-    match node {
-        Node::MoreStatements { first, rest } => {
-            let pending = Pending::Statement { rest: *rest, env };
-            wait(pending, Control::Execute { place: *first, env })
+    match after {
+        Node::MoreStatements { first: _, rest: _ } => {
+            let pending = Pending::Statement { rest, env };
+            wait(pending, Control::Execute { place: first, env })
         }
-        _ => primitive(Primitive::Undefined),
+        _ => Step::Go(Control::Execute { place: first, env }),
     }
 }
 
 /// A list of declarators begins.
 pub fn begin_declarators(node: &Node, place: usize, env: Env) -> Step
     ensures means { (t : View) → t.name place ≡ name_of node.now →
-        step_comp t result ≡ comp_declarators (build_declarators t.tree node.now) Unmarked env.index }
-    ensures less { (t : View) → step_weight t result < weight_declarators (build_declarators t.tree node.now) }
+        step_comp t result ≡ comp_declarators t.program (build_declarators t.tree node.now) env.index }
+    ensures less { (t : Reader) → step_weight t result < weight_declarators (build_declarators t node.now) }
 {
     match node {
         Node::MoreDeclarators {
@@ -278,7 +281,7 @@ pub fn begin_declarators(node: &Node, place: usize, env: Env) -> Step
 /// An initializer begins.
 pub fn begin_initializer(name: usize, value: usize, env: Env) -> Step
     ensures means { (t : View) → step_comp t result ≡ control_comp t (Control.Initialize name value env) }
-    ensures less { (t : View) → step_weight t result < control_weight t (Control.Initialize name value env) }
+    ensures less { (t : Reader) → step_weight t result < control_weight t (Control.Initialize name value env) }
 {
     wait(
         Pending::AssignTo { name, env },
@@ -289,25 +292,25 @@ pub fn begin_initializer(name: usize, value: usize, env: Env) -> Step
 /// What waits goes on with a completion.
 pub fn resume(alloc: Global, frame: Frame, completion: Completion) -> Result<Step, Memory>
     ensures means { IfOk result (λ step. (t : View) → step_comp t step ≡ frame_comp t frame completion) }
-    ensures less { IfOk result (λ step. (t : View) → step_weight t step < frame_weight t frame) }
+    ensures less { IfOk result (λ step. (t : Reader) → step_weight t step < frame_weight t frame) }
 {
     match frame {
         Frame::Value(pending) => match completion {
             Completion::Normal(value) => go_on(alloc, pending, value),
             other => Ok(give(other)),
         },
-        Frame::LoopBody { test, body, env } => Ok(after_turn(test, body, env, completion)),
+        Frame::LoopBody { statement, env } => Ok(after_turn(statement, env, completion)),
         Frame::FileBody => Ok(after_body(completion)),
     }
 }
 
 // After the body of a loop.
-fn after_turn(test: usize, body: usize, env: Env, completion: Completion) -> Step
-    ensures means { (t : View) → step_comp t result ≡ frame_comp t (Frame.LoopBody test body env) completion }
-    ensures less { (t : View) → step_weight t result < frame_weight t (Frame.LoopBody test body env) }
+fn after_turn(statement: usize, env: Env, completion: Completion) -> Step
+    ensures means { (t : View) → step_comp t result ≡ frame_comp t (Frame.LoopBody statement env) completion }
+    ensures less { (t : Reader) → step_weight t result < frame_weight t (Frame.LoopBody statement env) }
 {
     match completion {
-        Completion::Normal(_) | Completion::Continue(None) => test_loop(test, body, env),
+        Completion::Normal(_) | Completion::Continue(None) => again(statement, env),
         Completion::Break(None) => primitive(Primitive::Undefined),
         Completion::Break(Some(label)) => give(Completion::Break(Some(label))),
         Completion::Continue(Some(label)) => give(Completion::Continue(Some(label))),
@@ -316,10 +319,20 @@ fn after_turn(test: usize, body: usize, env: Env, completion: Completion) -> Ste
     }
 }
 
+// A loop again, from its test.
+fn again(statement: usize, env: Env) -> Step
+    ensures { result ≡ Step.Go (Control.Execute statement env) }
+{
+    Step::Go(Control::Execute {
+        place: statement,
+        env,
+    })
+}
+
 // After the body of a file.
 fn after_body(completion: Completion) -> Step
     ensures means { (t : View) → step_comp t result ≡ frame_comp t Frame.FileBody completion }
-    ensures less { (t : View) → step_weight t result ≡ 0 }
+    ensures less { (t : Reader) → step_weight t result ≡ 0 }
 {
     match completion {
         Completion::Throw(value) => give(Completion::Throw(value)),
@@ -330,7 +343,7 @@ fn after_body(completion: Completion) -> Step
 // What waits for a value goes on with it.
 fn go_on(alloc: Global, pending: Pending, value: Value) -> Result<Step, Memory>
     ensures means { IfOk result (λ step. (t : View) → step_comp t step ≡ pending_comp t pending value) }
-    ensures less { IfOk result (λ step. (t : View) → step_weight t step < pending_weight t pending) }
+    ensures less { IfOk result (λ step. (t : Reader) → step_weight t step < pending_weight t pending) }
 {
     match pending {
         Pending::Callee { arguments, env } => Ok(Step::Go(Control::Gather {
@@ -375,14 +388,14 @@ fn go_on(alloc: Global, pending: Pending, value: Value) -> Result<Step, Memory>
         Pending::Statement { rest, env } => Ok(Step::Go(Control::ExecuteAll { place: rest, env })),
         Pending::Declarator { rest, env } => Ok(Step::Go(Control::Declare { place: rest, env })),
         Pending::Choose { holds, fails, env } => Ok(choose(holds, fails, env, &value)),
-        Pending::Turn { test, body, env } => Ok(turn(test, body, env, &value)),
+        Pending::Turn { statement, env } => Ok(turn(statement, env, &value)),
     }
 }
 
 // One of two arms.
 fn choose(holds: usize, fails: Option<usize>, env: Env, value: &Value) -> Step
     ensures means { (t : View) → step_comp t result ≡ pending_comp t (Pending.Choose holds fails env) value.now }
-    ensures less { (t : View) → step_weight t result < pending_weight t (Pending.Choose holds fails env) }
+    ensures less { (t : Reader) → step_weight t result < pending_weight t (Pending.Choose holds fails env) }
 {
     if to_boolean(value) {
         return Step::Go(Control::Execute { place: holds, env });
@@ -394,12 +407,12 @@ fn choose(holds: usize, fails: Option<usize>, env: Env, value: &Value) -> Step
 }
 
 // A turn of a loop, or its end.
-fn turn(test: usize, body: usize, env: Env, value: &Value) -> Step
-    ensures means { (t : View) → step_comp t result ≡ pending_comp t (Pending.Turn test body env) value.now }
-    ensures less { (t : View) → step_weight t result ≡ 0 }
+fn turn(statement: usize, env: Env, value: &Value) -> Step
+    ensures means { (t : View) → step_comp t result ≡ pending_comp t (Pending.Turn statement env) value.now }
+    ensures less { (t : Reader) → step_weight t result ≡ 0 }
 {
     if to_boolean(value) {
-        Step::Go(Control::Enter(Entry::WhileTurn { test, body, env }))
+        Step::Go(Control::Enter(Entry::Turn { statement, env }))
     } else {
         primitive(Primitive::Undefined)
     }
@@ -413,10 +426,10 @@ fn operate(
     right: Value,
 ) -> Result<Step, Memory>
     ensures means { IfOk result (λ step. (t : View) → step_comp t step ≡ operated operator left right) }
-    ensures less { IfOk result (λ step. (t : View) → step_weight t step ≡ 0) }
+    ensures less { IfOk result (λ step. (t : Reader) → step_weight t step ≡ 0) }
 {
     if !is_said(operator) {
-        return Ok(primitive(Primitive::Undefined));
+        return Ok(unsaid());
     }
     match binary(alloc, operator, &left, &right) {
         Ok(answer) => Ok(value(answer)),

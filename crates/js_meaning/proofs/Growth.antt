@@ -49,7 +49,7 @@ grows_handle (enter e j) next here after = λ c. grows_handle (j c) next (here c
 
 module _ (inside : Entry → Comp) (grown : (e : Entry) → Grows (inside e)) where
   -- a run only adds
-  abbrev Adds : ℕ → Type 0
+  abbrev pub Adds : ℕ → Type 0
   Adds n = (c : Comp) (s : Store) → Grows c → Extends s (exec inside n c s).store
 
   adds_none : Adds 0
@@ -64,7 +64,7 @@ module _ (inside : Entry → Comp) (grown : (e : Entry) → Grows (inside e)) wh
   adds_one n h (act f j) s g = then_extends s (f s) _ (g s).0 (adds_one n h (j s) (f s) (g s).1)
   adds_one n h (enter e next) s g = h (handle (inside e) next) s (grows_handle (inside e) next (grown e) g)
 
-  adds : (n : ℕ) → Adds n
+  pub adds : (n : ℕ) → Adds n
   adds zero = adds_none
   adds (suc n) = adds_one n (adds n)
 

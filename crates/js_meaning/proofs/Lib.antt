@@ -1,6 +1,15 @@
+mod Constructed
+mod Ends
 mod Grown
 mod Growth
 pub mod Handle
+mod Numbered
+mod Once
 mod Read
 mod Said
+mod SaidLinked
+mod Says
+mod Thin
+mod ThinForms
+mod Uncounted
 mod Worked

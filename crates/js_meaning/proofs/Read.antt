@@ -5,12 +5,11 @@ use Rattle.js_value.specs.Operators.{to_boolean}
 use Rattle.js_value.specs.State.{Store}
 use Rattle.js_meaning.specs.declared.outcome.Completion.{Completion}
 use Rattle.js_meaning.specs.declared.outcome.Completion.TheVariants.{Normal, Break, Continue, Return, Throw}
-use Rattle.js_walk.specs.Constructs.{constructs_expr}
+use Rattle.js_tree.specs.Plain.{While}
 use Rattle.js_value.specs.Realm.{undefined}
-use Rattle.js_meaning.specs.Marks.{Unmarked, after}
-use Rattle.js_meaning.specs.Effects.{Entry, WhileTurn, Comp, ret, enter, handle}
+use Rattle.js_meaning.specs.Effects.{Entry, Turn, Comp, ret, enter, handle}
 use Rattle.js_meaning.specs.Program.{Sources}
-use Rattle.js_meaning.specs.Meaning.{with_value, done, turn, loop, while_turn, after_turn, choose, comp_expr, comp_stmt, comp_stmt_if}
+use Rattle.js_meaning.specs.Meaning.{with_value, done, turn, comp_turn, after_turn, choose, comp_expr, comp_stmt, comp_stmt_if}
 use Rattle.js_meaning.specs.Files.{inside}
 use Rattle.js_meaning.specs.Steps.{Result, Completed, Refused, Stopped, then_go, eval}
 use Rattle.js_meaning.specs.Laws.{on_value, with_step, Follows, TurnsByStep, TurnsAgain, ChoosesArm}
@@ -60,24 +59,24 @@ module _ (p : Sources) where
   by_choice false c d q r n s first second = second
 
 pub follows : Follows
-follows p x xs marks env n s = value_then p _ _ _ (λ v left t. refl) n s
+follows p x y ys env n s = value_then p _ _ _ (λ v left t. refl) n s
 
 pub turns_by_step : TurnsByStep
-turns_by_step p test body marks labels env n s = value_then p (comp_expr test marks env) (turn test body marks labels env)
+turns_by_step p loc test body labels env n s = value_then p (comp_expr p test env) (turn (While loc test body) labels env)
     (λ v left t. if to_boolean v
-    then with_step (λ fewer. eval (inside p) fewer (while_turn test body marks labels env) t) left t
+    then with_step (λ fewer. eval (inside p) fewer (comp_turn p (While loc test body) labels env) t) left t
     else Completed (Normal undefined) left t)
     (λ v left t. by_choice p (to_boolean v) _ _ _ _ left t
-    (entered_alone p (WhileTurn test body marks labels env) left t) (nothing_done p left t)) n s
+    (entered_alone p (Turn (While loc test body) labels env) left t) (nothing_done p left t)) n s
 
 pub turns_again : TurnsAgain
-turns_again p test body marks labels env n s = eval_handle (inside p) n (comp_stmt body (after marks (constructs_expr test)) [] env)
-    (after_turn labels (loop test body marks labels env)) s
+turns_again p loc test body labels env n s = eval_handle (inside p) n (comp_stmt p body [] env)
+    (after_turn labels (comp_stmt p (While loc test body) labels env)) s
 
 pub chooses_arm : ChoosesArm
-chooses_arm p test holds fails labels env n s = value_then p (comp_expr test Unmarked env)
-    (choose (comp_stmt holds Unmarked [] env) (comp_stmt_if fails Unmarked env))
+chooses_arm p loc test holds fails labels env n s = value_then p (comp_expr p test env)
+    (choose (comp_stmt p holds [] env) (comp_stmt_if p fails env))
     (λ v left t. if to_boolean v
-    then eval (inside p) left (comp_stmt holds Unmarked [] env) t
-    else eval (inside p) left (comp_stmt_if fails Unmarked env) t)
+    then eval (inside p) left (comp_stmt p holds [] env) t
+    else eval (inside p) left (comp_stmt_if p fails env) t)
     (λ v left t. by_choice p (to_boolean v) _ _ _ _ left t refl refl) n s

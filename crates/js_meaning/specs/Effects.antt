@@ -1,22 +1,25 @@
 -- What a tree does, as a computation: a tree of its effects on the store, which asks for a step where the profile charges one.
-use Rattle.std.specs.Prelude.{ℕ, zero, suc, Bool, List}
-use Rattle.js_tree.specs.Plain.{Expr, Stmt}
-use Rattle.js_value.specs.State.{Store, Entered}
+use Rattle.std.specs.Prelude.{ℕ, zero, suc, List, Option}
+use Rattle.js_tree.specs.Plain.{Stmt}
+use Rattle.js_tree.specs.Mark.{Mark}
+use Rattle.js_value.specs.State.{Store}
 use Rattle.js_value.specs.declared.value.Value.{Value}
 use Rattle.js_value.specs.declared.value.Kind.{Kind}
 use Rattle.js_meaning.specs.declared.outcome.Completion.{Completion}
 use Rattle.js_meaning.specs.declared.outcome.Outcome.{Outcome}
 use Rattle.js_meaning.specs.declared.outcome.Outcome.TheVariants as outcome
-use Rattle.js_meaning.specs.Marks.{Marks}
 
--- what a step is charged for: a call of a function of the program, a call of a built-in function, a turn of a `while`, a
--- construct of a counted file, the start of a counted file
+-- what a step is charged for: a call of a function of the program; a call of a built-in function, which is this object, with the
+-- object that makes its result where it constructs (10.3.2, NewTarget); a turn of a loop with its labels; a construct of a counted
+-- file; the start of a counted file
 pub data Entry : Type 0 where
   Call : (code environment : ℕ) → (this : Value) → (arguments : List Value) → Entry
-  CallBuiltIn : (function : ℕ) → (constructing : Bool) → (this : Value) → (arguments : List Value) → Entry
-  WhileTurn : (test : Expr) → (body : Stmt) → (marks : Marks) → (labels : List (List ℕ)) → (environment : ℕ) → Entry
-  Construct : (entered : Entered) → Entry
+  CallBuiltIn : (callee function : ℕ) → (maker : Option ℕ) → (this : Value) → (arguments : List Value) → Entry
+  Turn : (loop : Stmt) → (labels : List (List ℕ)) → (environment : ℕ) → Entry
+  Construct : (mark : Mark) → Entry
   Start : (file : ℕ) → Entry
+  -- a form that is not in the language yet
+  Unsaid : Entry
 
 -- a computation completes, is refused, changes the store and goes on by what it read there before, or asks for a step, and
 -- goes on by how that which the step is for completes

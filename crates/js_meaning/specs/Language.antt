@@ -4,8 +4,8 @@ use Rattle.js_tree.specs.declared.operators.AssignmentOperator.{AssignmentOperat
 use Rattle.js_tree.specs.declared.operators.AssignmentOperator.TheVariants as assignment
 use Rattle.js_tree.specs.declared.operators.VariableKind.{VariableKind}
 use Rattle.js_tree.specs.declared.operators.VariableKind.TheVariants as variable
-use Rattle.js_tree.specs.Plain.{Expr, IdentifierReference, NullLiteral, BooleanLiteral, NumericLiteral, StringLiteral, Parenthesized, Call, Binary, Assignment, Exprs, no_expr, more_expr}
-use Rattle.js_tree.specs.Plain.{Stmt, Directive, Block, VariableDeclaration, Empty, Expression, If, While, Stmts, no_stmt, more_stmt, MaybeStmt, none_stmt, some_stmt}
+use Rattle.js_tree.specs.Plain.{Expr, IdentifierReference, NullLiteral, BooleanLiteral, NumericLiteral, StringLiteral, Parenthesized, Call, Binary, Assignment, Entered, Exprs, no_expr, more_expr}
+use Rattle.js_tree.specs.Plain.{Stmt, Directive, Block, VariableDeclaration, Empty, Expression, If, While, EnteredStmt, Stmts, no_stmt, more_stmt, MaybeStmt, none_stmt, some_stmt, entered_none}
 use Rattle.js_tree.specs.Plain.{Declarator, MakeDeclarator, Declarators, no_declarator, more_declarator, MaybeExpr, none_expr, some_expr, File, MakeFile}
 use Rattle.js_text.specs.Reads.{Reads}
 use Rattle.js_value.specs.Operators.{has_answer}
@@ -34,6 +34,7 @@ abbrev mutual
   is_said_expr (Call loc callee arguments) = is_said_expr callee && are_said_exprs arguments
   is_said_expr (Binary loc operator left right) = has_answer operator && (is_said_expr left && is_said_expr right)
   is_said_expr (Assignment loc operator target e) = is_said_assignment operator && (is_said_target target && is_said_expr e)
+  is_said_expr (Entered mark e) = is_said_expr e
   is_said_expr _ = false
 
   pub are_said_exprs : Exprs → Bool
@@ -60,6 +61,7 @@ abbrev mutual
   is_said_stmt (Expression loc e) = is_said_expr e
   is_said_stmt (If loc test holds fails) = is_said_expr test && (is_said_stmt holds && is_said_stmt_if fails)
   is_said_stmt (While loc test body) = is_said_expr test && is_said_stmt body
+  is_said_stmt (EnteredStmt mark x) = is_said_stmt x
   is_said_stmt _ = false
 
   pub are_said_stmts : Stmts → Bool
@@ -69,6 +71,7 @@ abbrev mutual
   pub is_said_stmt_if : MaybeStmt → Bool
   is_said_stmt_if none_stmt = true
   is_said_stmt_if (some_stmt x) = is_said_stmt x
+  is_said_stmt_if (entered_none mark) = true
 
 abbrev pub is_said_file : File → Bool
 is_said_file (MakeFile statements comments) = are_said_stmts statements

@@ -1,8 +1,10 @@
 -- What a reader expects of the meaning, as laws.
-use Rattle.std.specs.Prelude.{◌≡◌, ℕ, zero, suc, ◌+◌, List, [], ◌∷◌, ◌++◌, None, if◌then◌else◌}
-use Rattle.js_tree.specs.Plain.{Expr, Stmt, Stmts, MaybeStmt, more_stmt, If}
-use Rattle.js_tree.specs.declared.construct.Construct as C
-use Rattle.js_walk.specs.Constructs.{constructs_stmt, constructs_expr}
+use Rattle.std.specs.Prelude.{◌≡◌, ℕ, zero, suc, ◌+◌, ◌-◌, ◌≤◌, length, slice_get, Bool, true, false, List, [], ◌∷◌, ◌++◌, Option, Some, None, if◌then◌else◌}
+use Rattle.js_tree.specs.declared.place.Loc.{Loc}
+use Rattle.js_tree.specs.Mark.{Mark}
+use Rattle.js_tree.specs.Marked.{one_if}
+use Rattle.js_tree.specs.Codes.{Code, number_of}
+use Rattle.js_tree.specs.Plain.{Expr, Stmt, Stmts, MaybeStmt, more_stmt, While, If, File}
 use Rattle.js_value.specs.declared.value.Value.{Value}
 use Rattle.js_value.specs.Operators.{to_boolean}
 use Rattle.js_value.specs.State.{Store}
@@ -12,13 +14,15 @@ use Rattle.js_meaning.specs.declared.outcome.Completion.{Completion}
 use Rattle.js_meaning.specs.declared.outcome.Completion.TheVariants.{Normal, Break, Continue, Return, Throw}
 use Rattle.js_meaning.specs.declared.outcome.Outcome.{Outcome}
 use Rattle.js_meaning.specs.declared.outcome.Outcome.TheVariants.{Completes, Refuses, Stops}
-use Rattle.js_meaning.specs.Marks.{Marks, Unmarked, Marked, after}
-use Rattle.js_meaning.specs.Effects.{Entry, Comp, enter, handle, exec}
-use Rattle.js_meaning.specs.Program.{Sources}
-use Rattle.js_meaning.specs.Meaning.{entering, comp_expr, comp_stmt, comp_stmts, comp_stmt_if, loop, while_turn, after_turn}
+use Rattle.js_meaning.specs.Effects.{Entry, Call, CallBuiltIn, Turn, Construct, Start, Unsaid, Comp, ret, refuse, act, enter, handle, Ran, exec}
+use Rattle.js_meaning.specs.Language.{is_said_stmt, are_said_stmts, is_said_file}
+use Rattle.js_tree.specs.Linked.{Marking, Numbers, link_file}
+use Rattle.js_meaning.specs.Program.{Source, Sources, linked, uncounted, function_at}
+use Rattle.js_meaning.specs.Meaning.{done, entering, comp_expr, comp_stmt, comp_stmts, comp_stmt_if, comp_turn, after_turn}
 use Rattle.js_meaning.specs.Files.{inside}
-use Rattle.js_meaning.specs.Steps.{Result, Completed, Stopped, then_go, eval, ran_by}
-use Rattle.js_meaning.specs.World.{meaning}
+use Rattle.js_meaning.specs.Steps.{Result, Completed, Refused, Stopped, then_go, eval, ran_by}
+use Rattle.js_meaning.specs.declared.outcome.End.TheVariants.{Going}
+use Rattle.js_meaning.specs.World.{meaning, World, world, PlainRun, plain}
 
 -- Steps
 
@@ -76,10 +80,9 @@ on_value f (Throw v) left s = Completed (Throw v) left s
 
 -- one statement after another
 abbrev pub Follows : Type 0
-Follows = (p : Sources) (x : Stmt) (xs : Stmts) (marks : Marks) (env n : ℕ) (s : Store) →
-    eval (inside p) n (comp_stmts (more_stmt x xs) marks env) s
-    ≡ then_go (eval (inside p) n (comp_stmt x marks [] env) s)
-    (on_value (λ v left t. eval (inside p) left (comp_stmts xs (after marks (constructs_stmt x)) env) t))
+Follows = (p : Sources) (x y : Stmt) (ys : Stmts) (env n : ℕ) (s : Store) →
+    eval (inside p) n (comp_stmts p (more_stmt x (more_stmt y ys)) env) s
+    ≡ then_go (eval (inside p) n (comp_stmt p x [] env) s) (on_value (λ v left t. eval (inside p) left (comp_stmts p (more_stmt y ys) env) t))
 
 -- with a step left, the turn of a loop; with none, none
 abbrev pub with_step : (ℕ → Result) → ℕ → Store → Result
@@ -88,31 +91,108 @@ with_step f (suc left) s = f left
 
 -- a loop asks for a step at each turn, after its test
 abbrev pub TurnsByStep : Type 0
-TurnsByStep = (p : Sources) (test : Expr) (body : Stmt) (marks : Marks) (labels : List (List ℕ)) (env n : ℕ) (s : Store) →
-    eval (inside p) n (loop test body marks labels env) s
-    ≡ then_go (eval (inside p) n (comp_expr test marks env) s)
+TurnsByStep = (p : Sources) (loc : Option Loc) (test : Expr) (body : Stmt) (labels : List (List ℕ)) (env n : ℕ) (s : Store) →
+    eval (inside p) n (comp_stmt p (While loc test body) labels env) s
+    ≡ then_go (eval (inside p) n (comp_expr p test env) s)
     (on_value (λ v left t. if to_boolean v
-    then with_step (λ fewer. eval (inside p) fewer (while_turn test body marks labels env) t) left t
+    then with_step (λ fewer. eval (inside p) fewer (comp_turn p (While loc test body) labels env) t) left t
     else Completed (Normal undefined) left t))
 
 -- a turn is the body, and then the loop once more where its completion asks for it
 abbrev pub TurnsAgain : Type 0
-TurnsAgain = (p : Sources) (test : Expr) (body : Stmt) (marks : Marks) (labels : List (List ℕ)) (env n : ℕ) (s : Store) →
-    eval (inside p) n (while_turn test body marks labels env) s
-    ≡ then_go (eval (inside p) n (comp_stmt body (after marks (constructs_expr test)) [] env) s)
-    (λ c left t. eval (inside p) left (after_turn labels (loop test body marks labels env) c) t)
+TurnsAgain = (p : Sources) (loc : Option Loc) (test : Expr) (body : Stmt) (labels : List (List ℕ)) (env n : ℕ) (s : Store) →
+    eval (inside p) n (comp_turn p (While loc test body) labels env) s
+    ≡ then_go (eval (inside p) n (comp_stmt p body [] env) s)
+    (λ c left t. eval (inside p) left (after_turn labels (comp_stmt p (While loc test body) labels env) c) t)
 
--- an uncounted `if` is its test, and then one of its arms
+-- an `if` is its test, and then one of its arms
 abbrev pub ChoosesArm : Type 0
-ChoosesArm = (p : Sources) (test : Expr) (holds : Stmt) (fails : MaybeStmt) (labels : List (List ℕ)) (env n : ℕ) (s : Store) →
-    eval (inside p) n (comp_stmt (If None test holds fails) Unmarked labels env) s
-    ≡ then_go (eval (inside p) n (comp_expr test Unmarked env) s)
+ChoosesArm = (p : Sources) (loc : Option Loc) (test : Expr) (holds : Stmt) (fails : MaybeStmt) (labels : List (List ℕ)) (env n : ℕ) (s : Store) →
+    eval (inside p) n (comp_stmt p (If loc test holds fails) labels env) s
+    ≡ then_go (eval (inside p) n (comp_expr p test env) s)
     (on_value (λ v left t. if to_boolean v
-    then eval (inside p) left (comp_stmt holds Unmarked [] env) t
-    else eval (inside p) left (comp_stmt_if fails Unmarked env) t))
+    then eval (inside p) left (comp_stmt p holds [] env) t
+    else eval (inside p) left (comp_stmt_if p fails env) t))
 
 -- a construct of a counted file is charged, noted, and then done
 abbrev pub NotesConstruct : Type 0
-NotesConstruct = (p : Sources) (file next path n : ℕ) (x : C.Construct) (xs : List C.Construct) (c : Comp) (s : Store) →
-    eval (inside p) (suc n) (entering (Marked file next) (x ∷ xs) path c) s
-    ≡ eval (inside p) n c (note (record { file = file; construct = next; path = path }) s)
+NotesConstruct = (p : Sources) (mark : Mark) (n : ℕ) (c : Comp) (s : Store) →
+    eval (inside p) (suc n) (entering mark c) s ≡ eval (inside p) n c (note mark s)
+
+-- Two runs
+
+abbrev pub is_counted : Option Source → Bool
+is_counted None = false
+is_counted (Some source) = source.counted
+
+-- how many of the starts are of counted files
+abbrev pub counted_starts : Sources → List ℕ → ℕ
+counted_starts p [] = 0
+counted_starts p (file ∷ files) = one_if (is_counted (slice_get p.files file)) + counted_starts p files
+
+-- the steps that were charged for entries of constructs and for starts
+abbrev pub charged : Sources → Store → ℕ
+charged p s = length s.log + counted_starts p s.starts
+
+-- the same store but for the log and the files started
+abbrev pub but_for : List Mark → List ℕ → Store → Store
+but_for log started s = record s { log = log; started = started }
+
+-- a run without counting is that with counting, where it has as many steps less as that was charged for counting: where one is
+-- over, so is the other, with the same outcome, and the same store but for what tells of the constructs; else what the one printed
+-- begins what the other printed
+pub record RunsAlike (counted plain : Ran) : Type 0 where
+  pub outcome : IsOver counted.outcome → plain.outcome ≡ counted.outcome
+  pub store : IsOver counted.outcome → plain.store ≡ but_for plain.store.log plain.store.started counted.store
+  pub output : Continues counted.store.output plain.store.output
+
+abbrev pub RunsWithoutCounting : Type 0
+RunsWithoutCounting = (p : Sources) (file n : ℕ) → (charged p (meaning p file n).store ≤ n)
+    × RunsAlike (meaning p file n) (meaning (uncounted p) file (n - charged p (meaning p file n).store))
+
+-- The language
+
+-- a turn of a loop of the language
+abbrev pub is_said_turn : Stmt → Bool
+is_said_turn (While loc test body) = is_said_stmt (While loc test body)
+is_said_turn _ = false
+
+abbrev pub IsSaidEntry : Entry → Type 0
+IsSaidEntry (Call code env this arguments) = Unit {0}
+IsSaidEntry (CallBuiltIn callee function maker this arguments) = Unit {0}
+IsSaidEntry (Turn x labels env) = is_said_turn x ≡ true
+IsSaidEntry (Construct mark) = Unit {0}
+IsSaidEntry (Start file) = Unit {0}
+IsSaidEntry Unsaid = ⊥
+
+-- whatever the store holds, a computation comes to no form that isn't in the language
+abbrev pub Says : Comp → Type 0
+Says (ret c) = Unit {0}
+Says (refuse k) = Unit {0}
+Says (act f j) = (s : Store) → Says (j s)
+Says (enter e j) = IsSaidEntry e × ((c : Completion) → Says (j c))
+
+abbrev pub SaysWhatIsSaid : Type 0
+SaysWhatIsSaid = (p : Sources) (xs : Stmts) (env : ℕ) → are_said_stmts xs ≡ true → Says (comp_stmts p xs env)
+
+abbrev pub SaysTurns : Type 0
+SaysTurns = (p : Sources) (x : Stmt) (labels : List (List ℕ)) (env : ℕ) → is_said_turn x ≡ true → Says (inside p (Turn x labels env))
+
+-- the function that a program has at a number has that number
+abbrev pub NamesFunctions : Type 0
+NamesFunctions = (p : Sources) (n : ℕ) (code : Code) → function_at (linked p) n ≡ Some code → number_of code ≡ n
+
+-- a linked file is of the language where the file is
+abbrev pub LinksSaid : Type 0
+LinksSaid = (m : Marking) (tree : File) (k : Numbers) → is_said_file tree ≡ true → is_said_file (link_file m tree k).tree ≡ true
+
+-- the same as it is told: the steps that a run was charged for entries of constructs and for starts of counted files
+abbrev pub charged_in : Sources → World → ℕ
+charged_in p w = length w.log + counted_starts p w.starts
+
+-- what a run that has ended says and prints, a run without counting says and prints in as many steps less; and it prints more than a
+-- run that is going on, or as much
+abbrev pub EndsPlainly : Type 0
+EndsPlainly = (p : Sources) (path : List ℕ) (n : ℕ) (w : World) (r : PlainRun) →
+    world p path n ≡ Some w → plain p path (n - charged_in p w) ≡ Some r →
+    ((w.end ≡ Going → ⊥) → (r.end ≡ w.end) × (r.store.output ≡ w.output)) × Continues w.output r.store.output

@@ -1,8 +1,9 @@
+pub mod Counted
 pub mod Effects
+pub mod Entered
 pub mod Files
 pub mod Language
 pub mod Laws
-pub mod Marks
 pub mod Meaning
 pub mod Program
 pub mod Rows

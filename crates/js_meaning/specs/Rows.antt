@@ -6,13 +6,17 @@ use Rattle.js_tree.specs.declared.operators.BinaryOperator.TheVariants as binary
 use Rattle.js_tree.specs.declared.operators.AssignmentOperator.TheVariants as assignment
 use Rattle.js_tree.specs.declared.operators.VariableKind.TheVariants as variable
 use Rattle.js_tree.specs.Plain.{Expr, IdentifierReference, NullLiteral, NumericLiteral, StringLiteral, Binary, Assignment, Call, Exprs, no_expr, more_expr}
-use Rattle.js_tree.specs.Plain.{Stmt, Block, VariableDeclaration, Expression, If, While, Stmts, no_stmt, more_stmt, none_stmt, some_stmt, File, MakeFile}
+use Rattle.js_tree.specs.Plain.{Stmt, Block, VariableDeclaration, Expression, If, Labelled, While, Stmts, no_stmt, more_stmt, none_stmt, some_stmt, File, MakeFile}
 use Rattle.js_tree.specs.Plain.{MakeDeclarator, no_declarator, more_declarator, BindingIdentifier, some_expr}
+use Rattle.js_tree.specs.Plain.{FunctionExpression, ObjectLiteral, Parenthesized, Method, ComputedKey, no_property, more_property, Function, MakeFunction, FunctionBody, MakeFunctionBody, EnteredBody, no_param, EnteredStmt}
+use Rattle.js_tree.specs.Linked.{Marked, link_file, link_stmt}
 use Rattle.js_value.specs.declared.value.Kind.TheVariants as kind
-use Rattle.js_value.specs.State.{Entered}
+use Rattle.js_tree.specs.declared.construct.ConstructKind.TheVariants as construct_kind
+use Rattle.js_tree.specs.Mark.{Mark}
 use Rattle.js_meaning.specs.declared.outcome.End.{End}
 use Rattle.js_meaning.specs.declared.outcome.End.TheVariants.{Done, Threw, Range, Going}
-use Rattle.js_meaning.specs.Program.{Sources}
+use Rattle.js_meaning.specs.Entered.{entered_file, placed}
+use Rattle.js_meaning.specs.Program.{Sources, from}
 use Rattle.js_meaning.specs.World.{world, PlainRun, plain}
 
 -- Trees
@@ -85,21 +89,24 @@ abbrev pub Runs : List Stmt → ℕ → End → List ℕ → Type 0
 Runs body n end output = seen (plain (program false body) (codes "a.js") n) ≡ Some (record { end = end; output = output })
 
 -- the log of a counted program, whose file is started once
-abbrev pub Counts : List Stmt → ℕ → End → List ℕ → List Entered → Type 0
+abbrev pub Counts : List Stmt → ℕ → End → List ℕ → List Mark → Type 0
 Counts body n end output log = world (program true body) (codes "a.js") n
     ≡ Some (record { end = end; output = output; log = log; started = 0 ∷ []; starts = 0 ∷ [] })
 
--- a construct of the first file, by its place among the file's, and one of its paths
-abbrev pub entry : ℕ → ℕ → Entered
-entry construct path = record { file = 0; construct = construct; path = path }
+-- a statement, and a path of a branch, of the first file
+abbrev pub statement : ℕ → Mark
+statement number = record { file = 0; kind = construct_kind.Statement; number = number; path = 0 }
+
+abbrev pub arm : ℕ → ℕ → Mark
+arm number path = record { file = 0; kind = construct_kind.Branch; number = number; path = path }
 
 -- `print(1);`: a start, a statement and a call
 abbrev pub one_line : List Stmt
 one_line = Expression (at 0 9) (prints (number (codes "1") ∷ [])) ∷ []
 
 pub record OneLine : Type 0 where
-  pub counted : Counts one_line 3 Done (codes "1\n") (entry 0 0 ∷ [])
-  pub cut : Counts one_line 2 Going [] (entry 0 0 ∷ [])
+  pub counted : Counts one_line 3 Done (codes "1\n") (statement 0 ∷ [])
+  pub cut : Counts one_line 2 Going [] (statement 0 ∷ [])
   pub uncounted : Runs one_line 1 Done (codes "1\n")
   pub none : Runs one_line 0 Going []
 
@@ -111,8 +118,76 @@ one_branch =
     If (at 11 27) (name (codes "x")) (Expression (at 18 27) (prints (number (codes "1") ∷ []))) none_stmt ∷ []
 
 pub record OneBranch : Type 0 where
-  pub counted : Counts one_branch 4 Done [] (entry 0 0 ∷ entry 1 0 ∷ entry 2 1 ∷ [])
-  pub cut : Counts one_branch 3 Going [] (entry 0 0 ∷ entry 1 0 ∷ [])
+  pub counted : Counts one_branch 4 Done [] (statement 0 ∷ statement 1 ∷ arm 0 1 ∷ [])
+  pub cut : Counts one_branch 3 Going [] (statement 0 ∷ statement 1 ∷ [])
+
+-- `var i = 0; if (i < 1) { while (i < 2) i = i + 1; }`: each turn is a step, and enters the statement of the body
+abbrev pub nested_loop : List Stmt
+nested_loop =
+    VariableDeclaration (at 0 10) variable.Var
+    (more_declarator (MakeDeclarator (at 4 9) (BindingIdentifier (at 4 5) (codes "i")) (some_expr (NumericLiteral (at 8 9) (codes "0")))) no_declarator) ∷
+    If (at 11 51) (operation binary.LessThan (name (codes "i")) (number (codes "1")))
+    (Block (at 22 51) (statements (
+    While (at 24 49) (operation binary.LessThan (name (codes "i")) (number (codes "2")))
+    (Expression (at 38 49) (assign (codes "i") (operation binary.Add (name (codes "i")) (number (codes "1"))))) ∷ []))) none_stmt ∷ []
+
+pub record NestedLoop : Type 0 where
+  pub counted : Counts nested_loop 9 Done [] (statement 0 ∷ statement 1 ∷ arm 0 0 ∷ statement 2 ∷ statement 3 ∷ statement 3 ∷ [])
+  pub cut : Counts nested_loop 8 Going [] (statement 0 ∷ statement 1 ∷ arm 0 0 ∷ statement 2 ∷ statement 3 ∷ [])
+  pub uncounted : Runs nested_loop 2 Done []
+
+-- the second of two counted files: its constructs have its number, and numbers of their own
+abbrev pub two_files : Sources
+two_files = record {
+  files =
+      record { path = codes "a.js"; tree = file_of one_line; counted = true } ∷
+      record { path = codes "b.js"; tree = file_of one_line; counted = true } ∷ [];
+  prelude = file_of [];
+}
+
+pub record SecondFile : Type 0 where
+  pub counted : world two_files (codes "b.js") 3
+      ≡ Some (record {
+        end = Done;
+        output = codes "1\n";
+        log = record { file = 1; kind = construct_kind.Statement; number = 0; path = 0 } ∷ [];
+        started = 1 ∷ [];
+        starts = 1 ∷ [];
+      })
+
+-- `({ [function () {}]() {} });`, by the functions of the key and of the method
+abbrev pub computed_method : (key method : Function) → Stmt
+computed_method key method = Expression (at 0 28)
+    (Parenthesized (at 0 27) (ObjectLiteral (at 1 26) (more_property (Method (at 3 24) (ComputedKey (FunctionExpression (at 4 18) None key)) method) no_property)))
+
+-- a function's number in the program, and its body
+abbrev pub function_of : ℕ → FunctionBody → Function
+function_of number body = MakeFunction number no_param body
+
+abbrev pub key_body : FunctionBody
+key_body = MakeFunctionBody (at 16 18) no_stmt
+
+abbrev pub method_body : FunctionBody
+method_body = MakeFunctionBody (at 22 24) no_stmt
+
+-- a body of the first file that is entered
+abbrev pub called : ℕ → FunctionBody → FunctionBody
+called number body = EnteredBody (record { file = 0; kind = construct_kind.Function; number = number; path = 0 }) body
+
+-- a method has its numbers before the function in its key
+pub record ComputedMethod : Type 0 where
+  pub counted : (link_stmt (Marked 0) (computed_method (function_of 0 key_body) (function_of 0 method_body)) (from 0)).tree
+      ≡ EnteredStmt (statement 0) (computed_method (function_of 1 (called 1 key_body)) (function_of 0 (called 0 method_body)))
+
+-- `if (x) a: while (y) z;`: of the marks before the label the arm's comes first, then the labelled statement's, then the loop's
+abbrev pub labelled_loop : Stmt
+labelled_loop = If (at 0 22) (name (codes "x"))
+    (Labelled (at 7 22) (record { name = codes "a"; loc = at 7 8 }) (While (at 10 22) (name (codes "y")) (Expression (at 20 22) (name (codes "z"))))) none_stmt
+
+pub record LabelledLoop : Type 0 where
+  pub marked : entered_file (link_file (Marked 0) (file_of (labelled_loop ∷ [])) (from 0)).tree
+      ≡ placed (statement 0) (at 0 22) ∷ placed (arm 0 0) (at 0 22) ∷ placed (statement 1) (at 7 22) ∷ placed (statement 2) (at 10 22)
+      ∷ placed (statement 3) (at 20 22) ∷ placed (arm 0 1) None ∷ []
 
 -- `var i = 0; while (i < 3) { print(i); i = i + 1; }`: three turns and three calls
 abbrev pub three_turns : List Stmt

@@ -1,10 +1,12 @@
 -- How a program runs: its end, what it prints, and what it enters, with so many steps.
 use Rattle.std.specs.Prelude.{ℕ, suc, ◌+◌, Bool, ◌&&◌, List, [], ◌∷◌, ◌++◌, Option, Some, None, nat_eq, codes, if◌then◌else◌, option_map}
+use Rattle.js_tree.specs.Mark.{Mark}
+use Rattle.js_tree.specs.Marked.{times}
 use Rattle.js_value.specs.declared.value.Value.{Value}
 use Rattle.js_value.specs.declared.value.Value.TheVariants as value
 use Rattle.js_value.specs.declared.value.Primitive.TheVariants as primitive
 use Rattle.js_value.specs.Operators.{text_of_primitive}
-use Rattle.js_value.specs.State.{ObjectKind, Error, BuiltIn, Written, Entered, Store}
+use Rattle.js_value.specs.State.{ObjectKind, Error, BuiltIn, Written, Heap, Store}
 use Rattle.js_value.specs.Objects.{kind_of, get}
 use Rattle.js_value.specs.Host.{utf8_of}
 use Rattle.js_value.specs.Realm.{realm}
@@ -15,7 +17,7 @@ use Rattle.js_meaning.specs.declared.outcome.Outcome.TheVariants.{Completes, Ref
 use Rattle.js_meaning.specs.declared.outcome.End.{End}
 use Rattle.js_meaning.specs.declared.outcome.End.TheVariants.{Done, Threw, Range, Going}
 use Rattle.js_meaning.specs.Effects.{Ran, exec}
-use Rattle.js_meaning.specs.Program.{Sources, uncounted, file_at}
+use Rattle.js_meaning.specs.Program.{Sources, linked, uncounted, file_at}
 use Rattle.js_meaning.specs.Files.{inside, start_file}
 
 -- What is shown of a thrown value
@@ -26,39 +28,42 @@ shown_kind (BuiltIn function) = codes "function"
 shown_kind (Written code env) = codes "function"
 shown_kind _ = codes "object"
 
-abbrev pub shown_part : Store → Option Value → List ℕ
-shown_part s None = text_of_primitive primitive.Undefined
-shown_part s (Some (value.Primitive p)) = text_of_primitive p
-shown_part s (Some (value.Object o)) = shown_kind (kind_of s o.index)
+abbrev pub shown_part : Heap → Option Value → List ℕ
+shown_part h None = text_of_primitive primitive.Undefined
+shown_part h (Some (value.Primitive p)) = text_of_primitive p
+shown_part h (Some (value.Object o)) = shown_kind (kind_of h o.index)
 
 -- a name, and `: ` and a message where there is one
 abbrev pub titled : List ℕ → List ℕ → List ℕ
 titled name [] = name
 titled name (u ∷ us) = name ++ codes ": " ++ u ∷ us
 
-abbrev pub shown_object : Store → ℕ → ObjectKind → List ℕ
-shown_object s o Error = titled (shown_part s (get s o (codes "name"))) (shown_part s (get s o (codes "message")))
-shown_object s o kind = shown_kind kind
+abbrev pub shown_object : Heap → ℕ → ObjectKind → List ℕ
+shown_object h o Error = titled (shown_part h (get h o (codes "name"))) (shown_part h (get h o (codes "message")))
+shown_object h o kind = shown_kind kind
 
-abbrev pub shown_units : Store → Value → List ℕ
-shown_units s (value.Primitive p) = text_of_primitive p
-shown_units s (value.Object o) = shown_object s o.index (kind_of s o.index)
+abbrev pub shown_units : Heap → Value → List ℕ
+shown_units h (value.Primitive p) = text_of_primitive p
+shown_units h (value.Object o) = shown_object h o.index (kind_of h o.index)
 
-abbrev pub shown : Store → Value → List ℕ
-shown s v = utf8_of (shown_units s v)
+abbrev pub shown : Heap → Value → List ℕ
+shown h v = utf8_of (shown_units h v)
 
 -- Runs
 
--- what a program's file does with so many steps
-abbrev pub meaning : Sources → ℕ → ℕ → Ran
-meaning p file n = exec (inside p) n (start_file p file) realm
+-- what a file of a program with its marks does with so many steps
+abbrev pub run : Sources → ℕ → ℕ → Ran
+run p file n = exec (inside p) n (start_file p file) realm
 
-abbrev pub end_of_completion : Store → Completion → End
-end_of_completion s (Throw v) = Threw (shown s v)
-end_of_completion s _ = Done
+abbrev pub meaning : Sources → ℕ → ℕ → Ran
+meaning p file n = run (linked p) file n
+
+abbrev pub end_of_completion : Heap → Completion → End
+end_of_completion h (Throw v) = Threw (shown h v)
+end_of_completion h _ = Done
 
 abbrev pub end_of : Outcome → Store → End
-end_of (Completes c) s = end_of_completion s c
+end_of (Completes c) s = end_of_completion s.heap c
 end_of (Refuses k) s = Range k
 end_of Stops s = Going
 
@@ -66,7 +71,7 @@ end_of Stops s = Going
 pub record World : Type 0 where
   pub end : End
   pub output : List ℕ
-  pub log : List Entered
+  pub log : List Mark
   pub started : List ℕ
   pub starts : List ℕ
 
@@ -95,10 +100,5 @@ abbrev pub plain : Sources → List ℕ → ℕ → Option PlainRun
 plain p path n = option_map (λ file. plainly (meaning (uncounted p) file n)) (file_at p path)
 
 -- how often a construct was entered by one of its paths
-abbrev pub is_entry : ℕ → ℕ → ℕ → Entered → Bool
-is_entry file construct path e = nat_eq e.file file && nat_eq e.construct construct && nat_eq e.path path
-
-abbrev pub entered : List Entered → ℕ → ℕ → ℕ → ℕ
-entered [] file construct path = 0
-entered (e ∷ es) file construct path =
-    if is_entry file construct path e then suc (entered es file construct path) else entered es file construct path
+abbrev pub entered : List Mark → Mark → ℕ
+entered log mark = times mark log

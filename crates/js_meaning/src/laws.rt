@@ -1,4 +1,6 @@
-ghost use Rattle.js_meaning.specs.Laws.{RunsAsEvaluated, Composes, StopsBefore, ChargesOne, EndsForGood, GoesOn, Follows, TurnsByStep, TurnsAgain, ChoosesArm, NotesConstruct};
+ghost use Rattle.js_meaning.specs.Laws.{RunsAsEvaluated, Composes, StopsBefore, ChargesOne, EndsForGood, GoesOn, Follows, TurnsByStep, TurnsAgain, ChoosesArm, NotesConstruct, RunsWithoutCounting, EndsPlainly, SaysWhatIsSaid, SaysTurns, LinksSaid, NamesFunctions};
+ghost use Rattle.js_meaning.specs.Counted.{MarksConstructs, MarksEach, MarksEnter, MarksOnce};
+ghost use Rattle.js_tree.specs.Unmarked.{UnmarksLinked};
 ghost use Rattle.js_meaning.specs.Language.{SaysAllThatIsRead};
 
 /// Of one computation after another, the second has what the first left of its steps.
@@ -21,6 +23,13 @@ pub fn more_steps()
     ensures going { GoesOn }
 {}
 
+/// A program without counting does in as many steps less as were charged for counting what it does with counting: it ends alike,
+/// and where the counted run is going on, what that printed begins what the other prints.
+pub fn without_counting()
+    ensures alike { RunsWithoutCounting }
+    ensures told { EndsPlainly }
+{}
+
 /// The meaning of a sequence, a loop and a choice, as one reads them.
 pub fn forms()
     ensures follows { Follows }
@@ -29,7 +38,22 @@ pub fn forms()
     ensures arm { ChoosesArm }
 {}
 
-/// The meaning of every tree that is read so far is said.
+/// The meaning of every tree that is read so far is said: none comes to a form that is not in the language.
 pub fn language()
     ensures said { SaysAllThatIsRead }
+    ensures says { SaysWhatIsSaid }
+    ensures turns { SaysTurns }
+    ensures linked { LinksSaid }
+{}
+
+/// Without its marks a counted file is the file that isn't counted, and each function of a program has the number by which it is
+/// found. The marks of a counted file are those of its constructs: each mark of each of them stands there once, and no other does,
+/// and what it enters stands where the list of constructs has it.
+pub fn marks()
+    ensures unmarked { UnmarksLinked }
+    ensures functions { NamesFunctions }
+    ensures entered { MarksEnter }
+    ensures constructs { MarksConstructs }
+    ensures once { MarksOnce }
+    ensures each { MarksEach }
 {}

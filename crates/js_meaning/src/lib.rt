@@ -8,7 +8,7 @@ mod outcome;
 mod program;
 mod rows;
 
-pub use laws::{charging, composition, forms, language, more_steps};
+pub use laws::{charging, composition, forms, language, marks, more_steps, without_counting};
 pub use outcome::{Completion, End, Outcome, Shown};
 pub use program::{Program, ProgramFile};
 pub use rows::worked_rows;

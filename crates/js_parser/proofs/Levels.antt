@@ -114,4 +114,5 @@ logical_low l.Coalesce = omega arith
 pub some_level : (e : P.Expr) → any ≤ level e
 some_level (P.Binary loc o a c) = let l = (levels o).low in omega arith
 some_level (P.Logical loc o a c) = logical_low o
+some_level (P.Entered mark e) = some_level e
 some_level e = omega arith

@@ -72,8 +72,9 @@ level (P.Binary loc operator a b) = binary_level operator
 level (P.Logical loc operator a b) = logical_level operator
 level (P.Conditional loc test a b) = 3
 level (P.Assignment loc operator target value) = 2
-level (P.ArrowFunction loc params body) = 2
+level (P.ArrowFunction loc number params body) = 2
 level (P.Comma loc a b) = 1
+level (P.Entered mark e) = level e
 
 -- what an argument, an initializer and the right side of `=` are (13.15)
 abbrev pub assignment : ℕ

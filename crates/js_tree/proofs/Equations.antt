@@ -224,7 +224,7 @@ expr_object_literal properties loc = ap (λ (x : ExprNode). plain_expr_node x lo
 pub expr_function_expression : (name : Option Identifier) (function : Function) (loc : Option Loc) → plain_expr_node (expr_node.FunctionExpression name function) loc ≡ P.FunctionExpression loc name (plain_function function)
 expr_function_expression name function loc = ap (λ (x : ExprNode). plain_expr_node x loc) (sym (expr_node.rolls-FunctionExpression name function)) ∙ ap (λ (f : Option Loc → P.Expr). f loc) (roll_expr_node (ExprNode-F.FunctionExpression name function))
 
-pub expr_arrow_function : (params : List Param) (body : ConciseBody) (loc : Option Loc) → plain_expr_node (expr_node.ArrowFunction params body) loc ≡ P.ArrowFunction loc (plain_params params) (plain_concise_body body)
+pub expr_arrow_function : (params : List Param) (body : ConciseBody) (loc : Option Loc) → plain_expr_node (expr_node.ArrowFunction params body) loc ≡ P.ArrowFunction loc 0 (plain_params params) (plain_concise_body body)
 expr_arrow_function params body loc = ap (λ (x : ExprNode). plain_expr_node x loc) (sym (expr_node.rolls-ArrowFunction params body)) ∙ (ap (λ (f : Option Loc → P.Expr). f loc) (roll_expr_node (ExprNode-F.ArrowFunction params body)) ∙ simp (params_same))
 
 pub expr_regular_expression_literal : (body : List ℕ) (flags : List ℕ) (loc : Option Loc) → plain_expr_node (expr_node.RegularExpressionLiteral body flags) loc ≡ P.RegularExpressionLiteral loc body flags
@@ -434,13 +434,13 @@ expr_rolled y = roll_expr y ∙ expr_layer y
 pub expr_made : (x : Expr) → plain_expr x ≡ plain_expr_node (out-Expr x).node (out-Expr x).loc
 expr_made x = ap plain_expr (sym (roll-out-Expr x)) ∙ expr_rolled (out-Expr x)
 
-function_layer : (y : Function-F ConciseBody ExprNode ForInit ForTarget PropertyKey PropertyNode StmtNode Case Catch Declarator Expr Function FunctionBody Param Property Stmt TemplatePart) → function_step (map-Function ConciseBody ExprNode ForInit ForTarget PropertyKey PropertyNode StmtNode Case Catch Declarator Expr Function FunctionBody Param Property Stmt TemplatePart P.ConciseBody (Option Loc → P.Expr) P.ForInit P.ForTarget P.PropertyKey (Option Loc → P.Property) (Option Loc → P.Stmt) P.Case P.Catch P.Declarator P.Expr P.Function P.FunctionBody P.Param P.Property P.Stmt P.TemplatePart plain_concise_body plain_expr_node plain_for_init plain_for_target plain_property_key plain_property_node plain_stmt_node plain_case plain_catch plain_declarator plain_expr plain_function plain_function_body plain_param plain_property plain_stmt plain_template_part y) ≡ P.MakeFunction (plain_params y.params) (plain_function_body y.body)
+function_layer : (y : Function-F ConciseBody ExprNode ForInit ForTarget PropertyKey PropertyNode StmtNode Case Catch Declarator Expr Function FunctionBody Param Property Stmt TemplatePart) → function_step (map-Function ConciseBody ExprNode ForInit ForTarget PropertyKey PropertyNode StmtNode Case Catch Declarator Expr Function FunctionBody Param Property Stmt TemplatePart P.ConciseBody (Option Loc → P.Expr) P.ForInit P.ForTarget P.PropertyKey (Option Loc → P.Property) (Option Loc → P.Stmt) P.Case P.Catch P.Declarator P.Expr P.Function P.FunctionBody P.Param P.Property P.Stmt P.TemplatePart plain_concise_body plain_expr_node plain_for_init plain_for_target plain_property_key plain_property_node plain_stmt_node plain_case plain_catch plain_declarator plain_expr plain_function plain_function_body plain_param plain_property plain_stmt plain_template_part y) ≡ P.MakeFunction 0 (plain_params y.params) (plain_function_body y.body)
 function_layer y = simp (params_same)
 
-pub function_rolled : (y : Function-F ConciseBody ExprNode ForInit ForTarget PropertyKey PropertyNode StmtNode Case Catch Declarator Expr Function FunctionBody Param Property Stmt TemplatePart) → plain_function (roll-Function y) ≡ P.MakeFunction (plain_params y.params) (plain_function_body y.body)
+pub function_rolled : (y : Function-F ConciseBody ExprNode ForInit ForTarget PropertyKey PropertyNode StmtNode Case Catch Declarator Expr Function FunctionBody Param Property Stmt TemplatePart) → plain_function (roll-Function y) ≡ P.MakeFunction 0 (plain_params y.params) (plain_function_body y.body)
 function_rolled y = roll_function y ∙ function_layer y
 
-pub function_made : (x : Function) → plain_function x ≡ P.MakeFunction (plain_params (out-Function x).params) (plain_function_body (out-Function x).body)
+pub function_made : (x : Function) → plain_function x ≡ P.MakeFunction 0 (plain_params (out-Function x).params) (plain_function_body (out-Function x).body)
 function_made x = ap plain_function (sym (roll-out-Function x)) ∙ function_rolled (out-Function x)
 
 function_body_layer : (y : FunctionBody-F ConciseBody ExprNode ForInit ForTarget PropertyKey PropertyNode StmtNode Case Catch Declarator Expr Function FunctionBody Param Property Stmt TemplatePart) → function_body_step (map-FunctionBody ConciseBody ExprNode ForInit ForTarget PropertyKey PropertyNode StmtNode Case Catch Declarator Expr Function FunctionBody Param Property Stmt TemplatePart P.ConciseBody (Option Loc → P.Expr) P.ForInit P.ForTarget P.PropertyKey (Option Loc → P.Property) (Option Loc → P.Stmt) P.Case P.Catch P.Declarator P.Expr P.Function P.FunctionBody P.Param P.Property P.Stmt P.TemplatePart plain_concise_body plain_expr_node plain_for_init plain_for_target plain_property_key plain_property_node plain_stmt_node plain_case plain_catch plain_declarator plain_expr plain_function plain_function_body plain_param plain_property plain_stmt plain_template_part y) ≡ P.MakeFunctionBody y.loc (plain_stmts y.statements)

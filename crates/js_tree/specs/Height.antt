@@ -1,8 +1,8 @@
 -- How high a tree is: how many nodes stand each inside the one before, at most.
--- Names of functions, labels, members and keys that are not computed are no nodes.
+-- Names of functions, labels, members and keys that are not computed are no nodes, nor are marks.
 use Rattle.std.specs.Prelude.{ℕ, ◌+◌, max}
-use Rattle.js_tree.specs.Plain.{Expr, IdentifierReference, This, NullLiteral, BooleanLiteral, NumericLiteral, StringLiteral, ArrayLiteral, ObjectLiteral, FunctionExpression, ArrowFunction, RegularExpressionLiteral, TemplateLiteral, Parenthesized, NamedMember, ComputedMember, New, Call, PostfixUpdate, PrefixUpdate, Unary, Binary, Logical, Conditional, Assignment, Comma}
-use Rattle.js_tree.specs.Plain.{Stmt, Directive, Block, VariableDeclaration, Empty, Expression, If, DoWhile, While, For, ForIn, ForOf, Continue, Break, Return, Switch, Labelled, Throw, TryCatch, TryFinally, TryCatchFinally, Debugger, FunctionDeclaration}
+use Rattle.js_tree.specs.Plain.{Expr, IdentifierReference, This, NullLiteral, BooleanLiteral, NumericLiteral, StringLiteral, ArrayLiteral, ObjectLiteral, FunctionExpression, ArrowFunction, RegularExpressionLiteral, TemplateLiteral, Parenthesized, NamedMember, ComputedMember, New, Call, PostfixUpdate, PrefixUpdate, Unary, Binary, Logical, Conditional, Assignment, Comma, Entered}
+use Rattle.js_tree.specs.Plain.{Stmt, Directive, Block, VariableDeclaration, Empty, Expression, If, DoWhile, While, For, ForIn, ForOf, Continue, Break, Return, Switch, Labelled, Throw, TryCatch, TryFinally, TryCatchFinally, Debugger, FunctionDeclaration, EnteredStmt}
 use Rattle.js_tree.specs.Plain.{Property, Shorthand, KeyValue, Method}
 use Rattle.js_tree.specs.Plain.{PropertyKey, NameKey, StringKey, NumberKey, ComputedKey}
 use Rattle.js_tree.specs.Plain.{ConciseBody, ExpressionBody, BlockBody}
@@ -10,15 +10,15 @@ use Rattle.js_tree.specs.Plain.{ForInit, NoInit, InitDeclaration, InitExpression
 use Rattle.js_tree.specs.Plain.{ForTarget, TargetDeclaration, TargetExpression}
 use Rattle.js_tree.specs.Plain.{TemplatePart, MakeTemplatePart}
 use Rattle.js_tree.specs.Plain.{Function, MakeFunction}
-use Rattle.js_tree.specs.Plain.{FunctionBody, MakeFunctionBody}
+use Rattle.js_tree.specs.Plain.{FunctionBody, MakeFunctionBody, EnteredBody}
 use Rattle.js_tree.specs.Plain.{Param, MakeParam}
 use Rattle.js_tree.specs.Plain.{Declarator, MakeDeclarator}
-use Rattle.js_tree.specs.Plain.{Case, MakeCase}
+use Rattle.js_tree.specs.Plain.{Case, MakeCase, EnteredCase}
 use Rattle.js_tree.specs.Plain.{Catch, MakeCatch}
 use Rattle.js_tree.specs.Plain.{Pattern, BindingIdentifier}
 use Rattle.js_tree.specs.Plain.{MaybePattern, none_pattern, some_pattern}
 use Rattle.js_tree.specs.Plain.{MaybeExpr, none_expr, some_expr}
-use Rattle.js_tree.specs.Plain.{MaybeStmt, none_stmt, some_stmt}
+use Rattle.js_tree.specs.Plain.{MaybeStmt, none_stmt, some_stmt, entered_none}
 use Rattle.js_tree.specs.Plain.{TemplateParts, no_template_part, more_template_part}
 use Rattle.js_tree.specs.Plain.{Properties, no_property, more_property}
 use Rattle.js_tree.specs.Plain.{Params, no_param, more_param}
@@ -40,7 +40,7 @@ abbrev mutual
   height_expr (ArrayLiteral _ items) = height_exprs items + 1
   height_expr (ObjectLiteral _ properties) = height_properties properties + 1
   height_expr (FunctionExpression _ _ function) = height_function function
-  height_expr (ArrowFunction _ params body) = max (height_params params) (height_concise_body body) + 1
+  height_expr (ArrowFunction _ _ params body) = max (height_params params) (height_concise_body body) + 1
   height_expr (RegularExpressionLiteral _ _ _) = 1
   height_expr (TemplateLiteral _ _ parts) = height_template_parts parts + 1
   height_expr (Parenthesized _ inner) = height_expr inner + 1
@@ -56,6 +56,7 @@ abbrev mutual
   height_expr (Conditional _ test then otherwise) = max (height_expr test) (max (height_expr then) (height_expr otherwise)) + 1
   height_expr (Assignment _ _ target value) = max (height_expr target) (height_expr value) + 1
   height_expr (Comma _ left right) = max (height_expr left) (height_expr right) + 1
+  height_expr (Entered _ inner) = height_expr inner
 
   -- the string of a directive is a leaf, as in an expression statement
   pub height_stmt : Stmt → ℕ
@@ -81,6 +82,7 @@ abbrev mutual
   height_stmt (TryCatchFinally _ block catch finally) = max (height_stmts block) (max (height_catch catch) (height_stmts finally)) + 1
   height_stmt (Debugger _) = 1
   height_stmt (FunctionDeclaration _ _ function) = height_function function
+  height_stmt (EnteredStmt _ inner) = height_stmt inner
 
   -- the name of a shorthand is a leaf
   pub height_property : Property → ℕ
@@ -115,10 +117,11 @@ abbrev mutual
   -- one more than its highest part: its declaration or its expression is the function and no level more, a method is a
   -- property with a function in it
   pub height_function : Function → ℕ
-  height_function (MakeFunction params body) = max (height_params params) (height_function_body body) + 1
+  height_function (MakeFunction _ params body) = max (height_params params) (height_function_body body) + 1
 
   pub height_function_body : FunctionBody → ℕ
   height_function_body (MakeFunctionBody _ statements) = height_stmts statements
+  height_function_body (EnteredBody _ body) = height_function_body body
 
   -- a parameter without a default is a leaf
   pub height_param : Param → ℕ
@@ -130,6 +133,7 @@ abbrev mutual
 
   pub height_case : Case → ℕ
   height_case (MakeCase _ test statements) = max (height_expr_if test) (height_stmts statements) + 1
+  height_case (EnteredCase _ case) = height_case case
 
   pub height_catch : Catch → ℕ
   height_catch (MakeCatch parameter statements) = max (height_pattern_if parameter) (height_stmts statements)
@@ -148,6 +152,7 @@ abbrev mutual
   pub height_stmt_if : MaybeStmt → ℕ
   height_stmt_if none_stmt = 0
   height_stmt_if (some_stmt x) = height_stmt x
+  height_stmt_if (entered_none _) = 0
 
   pub height_template_parts : TemplateParts → ℕ
   height_template_parts no_template_part = 0

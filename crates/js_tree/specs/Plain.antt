@@ -1,4 +1,5 @@
--- The tree as plain data, in ECMA-262's words. Every definition goes by cases over it.
+-- The tree as plain data, in ECMA-262's words. Every definition goes by cases over it. A tree as it is read has no marks, and 0 as
+-- the number of each function.
 use Rattle.std.specs.Prelude.{ℕ, Bool, List, Option}
 use Rattle.js_tree.specs.declared.operators.AssignmentOperator.{AssignmentOperator}
 use Rattle.js_tree.specs.declared.operators.BinaryOperator.{BinaryOperator}
@@ -10,6 +11,7 @@ use Rattle.js_tree.specs.declared.place.Loc.{Loc}
 use Rattle.js_tree.specs.declared.words.Comment.{Comment}
 use Rattle.js_tree.specs.declared.words.Identifier.{Identifier}
 use Rattle.js_tree.specs.declared.words.Spelled.{Spelled}
+use Rattle.js_tree.specs.Mark.{Mark}
 
 mutual
   -- an expression (13)
@@ -23,7 +25,7 @@ mutual
     ArrayLiteral : Option Loc → Exprs → Expr
     ObjectLiteral : Option Loc → Properties → Expr
     FunctionExpression : Option Loc → Option Identifier → Function → Expr
-    ArrowFunction : Option Loc → Params → ConciseBody → Expr
+    ArrowFunction : Option Loc → ℕ → Params → ConciseBody → Expr
     RegularExpressionLiteral : Option Loc → List ℕ → List ℕ → Expr
     TemplateLiteral : Option Loc → Spelled → TemplateParts → Expr
     Parenthesized : Option Loc → Expr → Expr
@@ -39,6 +41,8 @@ mutual
     Conditional : Option Loc → Expr → Expr → Expr → Expr
     Assignment : Option Loc → AssignmentOperator → Expr → Expr → Expr
     Comma : Option Loc → Expr → Expr → Expr
+    -- in no source: an expression whose evaluation enters a construct
+    Entered : Mark → Expr → Expr
 
   -- a statement or a directive (14, 11.2.1)
   pub data Stmt : Type 0 where
@@ -64,6 +68,8 @@ mutual
     TryCatchFinally : Option Loc → Stmts → Catch → Stmts → Stmt
     Debugger : Option Loc → Stmt
     FunctionDeclaration : Option Loc → Identifier → Function → Stmt
+    -- in no source: a statement whose execution enters a construct
+    EnteredStmt : Mark → Stmt → Stmt
 
   -- a property of an object literal (13.2.5)
   pub data Property : Type 0 where
@@ -98,13 +104,15 @@ mutual
   pub data TemplatePart : Type 0 where
     MakeTemplatePart : Expr → Spelled → TemplatePart
 
-  -- the parameters and the body of a function or a method (15.2, 15.4)
+  -- the number in its program, the parameters and the body of a function or a method (15.2, 15.4)
   pub data Function : Type 0 where
-    MakeFunction : Params → FunctionBody → Function
+    MakeFunction : ℕ → Params → FunctionBody → Function
 
   -- a function's body in braces (15.2)
   pub data FunctionBody : Type 0 where
     MakeFunctionBody : Option Loc → Stmts → FunctionBody
+    -- in no source: a body that enters a construct where it starts
+    EnteredBody : Mark → FunctionBody → FunctionBody
 
   -- a parameter, and its default (15.1)
   pub data Param : Type 0 where
@@ -117,6 +125,8 @@ mutual
   -- a clause of a `switch`, without a test for `default` (14.12)
   pub data Case : Type 0 where
     MakeCase : Option Loc → MaybeExpr → Stmts → Case
+    -- in no source: a clause that enters a construct where its statements begin
+    EnteredCase : Mark → Case → Case
 
   -- a `catch` clause (14.15)
   pub data Catch : Type 0 where
@@ -140,6 +150,8 @@ mutual
   pub data MaybeStmt : Type 0 where
     none_stmt : MaybeStmt
     some_stmt : Stmt → MaybeStmt
+    -- in no source: none, and a construct that is entered where it would stand
+    entered_none : Mark → MaybeStmt
 
   -- items of an array, or arguments
   pub data Exprs : Type 0 where

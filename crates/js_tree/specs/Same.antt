@@ -1,8 +1,8 @@
 -- A tree without its places, its comments and its pairs of parentheses.
 use Rattle.std.specs.Prelude.{Bool, true, false, [], Option, Some, None}
 use Rattle.js_tree.specs.declared.words.Identifier.{Identifier}
-use Rattle.js_tree.specs.Plain.{Expr, IdentifierReference, This, NullLiteral, BooleanLiteral, NumericLiteral, StringLiteral, ArrayLiteral, ObjectLiteral, FunctionExpression, ArrowFunction, RegularExpressionLiteral, TemplateLiteral, Parenthesized, NamedMember, ComputedMember, New, Call, PostfixUpdate, PrefixUpdate, Unary, Binary, Logical, Conditional, Assignment, Comma}
-use Rattle.js_tree.specs.Plain.{Stmt, Directive, Block, VariableDeclaration, Empty, Expression, If, DoWhile, While, For, ForIn, ForOf, Continue, Break, Return, Switch, Labelled, Throw, TryCatch, TryFinally, TryCatchFinally, Debugger, FunctionDeclaration}
+use Rattle.js_tree.specs.Plain.{Expr, IdentifierReference, This, NullLiteral, BooleanLiteral, NumericLiteral, StringLiteral, ArrayLiteral, ObjectLiteral, FunctionExpression, ArrowFunction, RegularExpressionLiteral, TemplateLiteral, Parenthesized, NamedMember, ComputedMember, New, Call, PostfixUpdate, PrefixUpdate, Unary, Binary, Logical, Conditional, Assignment, Comma, Entered}
+use Rattle.js_tree.specs.Plain.{Stmt, Directive, Block, VariableDeclaration, Empty, Expression, If, DoWhile, While, For, ForIn, ForOf, Continue, Break, Return, Switch, Labelled, Throw, TryCatch, TryFinally, TryCatchFinally, Debugger, FunctionDeclaration, EnteredStmt}
 use Rattle.js_tree.specs.Plain.{Property, Shorthand, KeyValue, Method}
 use Rattle.js_tree.specs.Plain.{PropertyKey, NameKey, StringKey, NumberKey, ComputedKey}
 use Rattle.js_tree.specs.Plain.{ConciseBody, ExpressionBody, BlockBody}
@@ -10,15 +10,15 @@ use Rattle.js_tree.specs.Plain.{ForInit, NoInit, InitDeclaration, InitExpression
 use Rattle.js_tree.specs.Plain.{ForTarget, TargetDeclaration, TargetExpression}
 use Rattle.js_tree.specs.Plain.{TemplatePart, MakeTemplatePart}
 use Rattle.js_tree.specs.Plain.{Function, MakeFunction}
-use Rattle.js_tree.specs.Plain.{FunctionBody, MakeFunctionBody}
+use Rattle.js_tree.specs.Plain.{FunctionBody, MakeFunctionBody, EnteredBody}
 use Rattle.js_tree.specs.Plain.{Param, MakeParam}
 use Rattle.js_tree.specs.Plain.{Declarator, MakeDeclarator}
-use Rattle.js_tree.specs.Plain.{Case, MakeCase}
+use Rattle.js_tree.specs.Plain.{Case, MakeCase, EnteredCase}
 use Rattle.js_tree.specs.Plain.{Catch, MakeCatch}
 use Rattle.js_tree.specs.Plain.{Pattern, BindingIdentifier}
 use Rattle.js_tree.specs.Plain.{MaybePattern, none_pattern, some_pattern}
 use Rattle.js_tree.specs.Plain.{MaybeExpr, none_expr, some_expr}
-use Rattle.js_tree.specs.Plain.{MaybeStmt, none_stmt, some_stmt}
+use Rattle.js_tree.specs.Plain.{MaybeStmt, none_stmt, some_stmt, entered_none}
 use Rattle.js_tree.specs.Plain.{TemplateParts, no_template_part, more_template_part}
 use Rattle.js_tree.specs.Plain.{Properties, no_property, more_property}
 use Rattle.js_tree.specs.Plain.{Params, no_param, more_param}
@@ -48,7 +48,7 @@ abbrev mutual
   bare_expr (ArrayLiteral _ items) = ArrayLiteral None (bare_exprs items)
   bare_expr (ObjectLiteral _ properties) = ObjectLiteral None (bare_properties properties)
   bare_expr (FunctionExpression _ name function) = FunctionExpression None (bare_identifier_if name) (bare_function function)
-  bare_expr (ArrowFunction _ params body) = ArrowFunction None (bare_params params) (bare_concise_body body)
+  bare_expr (ArrowFunction _ number params body) = ArrowFunction None number (bare_params params) (bare_concise_body body)
   bare_expr (RegularExpressionLiteral _ body flags) = RegularExpressionLiteral None body flags
   bare_expr (TemplateLiteral _ head parts) = TemplateLiteral None head (bare_template_parts parts)
   bare_expr (Parenthesized _ inner) = bare_expr inner
@@ -64,6 +64,7 @@ abbrev mutual
   bare_expr (Conditional _ test then otherwise) = Conditional None (bare_expr test) (bare_expr then) (bare_expr otherwise)
   bare_expr (Assignment _ operator target value) = Assignment None operator (bare_expr target) (bare_expr value)
   bare_expr (Comma _ left right) = Comma None (bare_expr left) (bare_expr right)
+  bare_expr (Entered mark inner) = Entered mark (bare_expr inner)
 
   pub bare_stmt : Stmt → Stmt
   bare_stmt (Directive _ string) = Directive None string
@@ -88,6 +89,7 @@ abbrev mutual
   bare_stmt (TryCatchFinally _ block catch finally) = TryCatchFinally None (bare_stmts block) (bare_catch catch) (bare_stmts finally)
   bare_stmt (Debugger _) = Debugger None
   bare_stmt (FunctionDeclaration _ name function) = FunctionDeclaration None (bare_identifier name) (bare_function function)
+  bare_stmt (EnteredStmt mark inner) = EnteredStmt mark (bare_stmt inner)
 
   pub bare_property : Property → Property
   bare_property (Shorthand _ name) = Shorthand None name
@@ -117,10 +119,11 @@ abbrev mutual
   bare_template_part (MakeTemplatePart value text) = MakeTemplatePart (bare_expr value) text
 
   pub bare_function : Function → Function
-  bare_function (MakeFunction params body) = MakeFunction (bare_params params) (bare_function_body body)
+  bare_function (MakeFunction number params body) = MakeFunction number (bare_params params) (bare_function_body body)
 
   pub bare_function_body : FunctionBody → FunctionBody
   bare_function_body (MakeFunctionBody _ statements) = MakeFunctionBody None (bare_stmts statements)
+  bare_function_body (EnteredBody mark body) = EnteredBody mark (bare_function_body body)
 
   pub bare_param : Param → Param
   bare_param (MakeParam _ pattern default) = MakeParam None (bare_pattern pattern) (bare_expr_if default)
@@ -130,6 +133,7 @@ abbrev mutual
 
   pub bare_case : Case → Case
   bare_case (MakeCase _ test statements) = MakeCase None (bare_expr_if test) (bare_stmts statements)
+  bare_case (EnteredCase mark case) = EnteredCase mark (bare_case case)
 
   pub bare_catch : Catch → Catch
   bare_catch (MakeCatch parameter statements) = MakeCatch (bare_pattern_if parameter) (bare_stmts statements)
@@ -148,6 +152,7 @@ abbrev mutual
   pub bare_stmt_if : MaybeStmt → MaybeStmt
   bare_stmt_if none_stmt = none_stmt
   bare_stmt_if (some_stmt x) = some_stmt (bare_stmt x)
+  bare_stmt_if (entered_none mark) = entered_none mark
 
   pub bare_template_parts : TemplateParts → TemplateParts
   bare_template_parts no_template_part = no_template_part

@@ -85,7 +85,7 @@ expr_node_step (ExprNode-F.StringLiteral string) loc = P.StringLiteral loc strin
 expr_node_step (ExprNode-F.ArrayLiteral items) loc = P.ArrayLiteral loc (exprs_of items)
 expr_node_step (ExprNode-F.ObjectLiteral properties) loc = P.ObjectLiteral loc (properties_of properties)
 expr_node_step (ExprNode-F.FunctionExpression name function) loc = P.FunctionExpression loc name function
-expr_node_step (ExprNode-F.ArrowFunction params body) loc = P.ArrowFunction loc (params_of params) body
+expr_node_step (ExprNode-F.ArrowFunction params body) loc = P.ArrowFunction loc 0 (params_of params) body
 expr_node_step (ExprNode-F.RegularExpressionLiteral body flags) loc = P.RegularExpressionLiteral loc body flags
 expr_node_step (ExprNode-F.TemplateLiteral head parts) loc = P.TemplateLiteral loc head (template_parts_of parts)
 expr_node_step (ExprNode-F.Parenthesized inner) loc = P.Parenthesized loc inner
@@ -163,7 +163,7 @@ abbrev pub expr_step : Expr-F P.ConciseBody (Option Loc → P.Expr) P.ForInit P.
 expr_step x = x.node x.loc
 
 abbrev pub function_step : Function-F P.ConciseBody (Option Loc → P.Expr) P.ForInit P.ForTarget P.PropertyKey (Option Loc → P.Property) (Option Loc → P.Stmt) P.Case P.Catch P.Declarator P.Expr P.Function P.FunctionBody P.Param P.Property P.Stmt P.TemplatePart → P.Function
-function_step x = P.MakeFunction (params_of x.params) x.body
+function_step x = P.MakeFunction 0 (params_of x.params) x.body
 
 abbrev pub function_body_step : FunctionBody-F P.ConciseBody (Option Loc → P.Expr) P.ForInit P.ForTarget P.PropertyKey (Option Loc → P.Property) (Option Loc → P.Stmt) P.Case P.Catch P.Declarator P.Expr P.Function P.FunctionBody P.Param P.Property P.Stmt P.TemplatePart → P.FunctionBody
 function_body_step x = P.MakeFunctionBody x.loc (stmts_of x.statements)

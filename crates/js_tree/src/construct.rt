@@ -16,6 +16,17 @@ pub enum BranchKind {
     Default,
 }
 
+/// A kind of construct: those of each kind have numbers of their own.
+#[derive(Clone, Copy, Debug, PartialEq, Eq)]
+pub enum ConstructKind {
+    /// A statement, an initializer, or an expression that is the body of an arrow function.
+    Statement,
+    /// A function.
+    Function,
+    /// A choice of one of several paths.
+    Branch,
+}
+
 /// What coverage counts in a file.
 #[derive(Drop)]
 pub enum Construct {

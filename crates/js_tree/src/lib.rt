@@ -7,7 +7,7 @@ mod place;
 mod tree;
 mod words;
 
-pub use construct::{BranchKind, Construct};
+pub use construct::{BranchKind, Construct, ConstructKind};
 pub use operators::{
     AssignmentOperator, BinaryOperator, LogicalOperator, UnaryOperator, UpdateOperator,
     VariableKind,

@@ -1,6 +1,8 @@
 pub mod DigitsLemmas
 pub mod ExamplesLemmas
+pub mod KeyLemmas
 pub mod NumbersLemmas
 pub mod PointLemmas
-mod StoreWorked
+pub mod StoreWorked
 pub mod Tenth
+mod TwoRunsLemmas

@@ -1,6 +1,7 @@
 -- What a running program holds (ECMA-262, 6.1.7, 9.1 and 10): its objects and environments, each numbered in the order in
 -- which they were made, the files that it started, what it wrote, and the constructs that it entered.
 use Rattle.std.specs.Prelude.{ℕ, Bool, List, Option}
+use Rattle.js_tree.specs.Mark.{Mark}
 use Rattle.js_value.specs.declared.value.Value.{Value}
 
 -- what an object is (10.1 to 10.4). A function of a program has the number of its code and the environment that it closes
@@ -20,11 +21,13 @@ pub record Property : Type 0 where
   pub enumerable : Bool
   pub writable : Bool
 
--- an object: its [[Prototype]] (10.1), and its own properties in the order in which they were added
+-- an object: its [[Prototype]] (10.1), the elements that it has where it is an array, and its other own properties in the order
+-- in which they were added
 pub record ObjectRecord : Type 0 where
   pub kind : ObjectKind
   pub prototype : Option ℕ
   pub frozen : Bool
+  pub elements : List Value
   pub properties : List Property
 
 -- a name of an environment (9.1.1.1), by its UTF-8 bytes: without a value it is not initialized yet
@@ -38,13 +41,6 @@ pub record Environment : Type 0 where
   pub outer : Option ℕ
   pub bindings : List Binding
 
--- a construct that was entered: the number of its file in the program, its place in the list of the file's constructs, and
--- which of its paths, from 0
-pub record Entered : Type 0 where
-  pub file : ℕ
-  pub construct : ℕ
-  pub path : ℕ
-
 -- a file that was started, by its path, and its object `module`
 pub record Cached : Type 0 where
   pub path : List ℕ
@@ -55,13 +51,17 @@ pub record Requiring : Type 0 where
   pub function : ℕ
   pub path : List ℕ
 
--- `started` has each counted file once, `starts` every start of a file, both in the order of the starts
-pub record Store : Type 0 where
+-- objects and environments, each numbered in the order in which they were made
+pub record Heap : Type 0 where
   pub objects : List ObjectRecord
   pub environments : List Environment
+
+-- `started` has each counted file once, `starts` every start of a file, both in the order of the starts
+pub record Store : Type 0 where
+  pub heap : Heap
   pub cache : List Cached
   pub requiring : List Requiring
   pub output : List ℕ
-  pub log : List Entered
+  pub log : List Mark
   pub started : List ℕ
   pub starts : List ℕ

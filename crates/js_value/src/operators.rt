@@ -73,7 +73,7 @@ pub fn to_text(alloc: Global, value: &Value) -> Result<Str, OpFault>
 }
 
 /// ToString of a primitive value, or want of memory.
-fn text_of_primitive(alloc: Global, primitive: &Primitive) -> Result<Str, Memory>
+pub fn text_of_primitive(alloc: Global, primitive: &Primitive) -> Result<Str, Memory>
     ensures { IfOk result (λ text. text ≡ spec.text_of_primitive primitive.now) }
 {
     match primitive {

@@ -8,99 +8,16 @@ use Rattle.js_tree.specs.declared.construct.Construct.TheVariants as construct
 use Rattle.js_tree.specs.declared.place.Loc.{Loc}
 use Rattle.js_tree.specs.declared.place.Pos.{Pos}
 use Rattle.js_tree.specs.declared.words.Identifier.{Identifier}
-use Rattle.js_tree.specs.Plain.{Expr, IdentifierReference, This, NullLiteral, BooleanLiteral, NumericLiteral, StringLiteral, ArrayLiteral, ObjectLiteral, FunctionExpression, ArrowFunction, RegularExpressionLiteral, TemplateLiteral, Parenthesized, NamedMember, ComputedMember, New, Call, PostfixUpdate, PrefixUpdate, Unary, Binary, Logical, Conditional, Assignment, Comma}
-use Rattle.js_tree.specs.Plain.{Stmt, Directive, Block, VariableDeclaration, Empty, Expression, If, DoWhile, While, For, ForIn, ForOf, Continue, Break, Return, Switch, Labelled, Throw, TryCatch, TryFinally, TryCatchFinally, Debugger, FunctionDeclaration}
-use Rattle.js_tree.specs.Plain.{Function, MakeFunction, FunctionBody, MakeFunctionBody, ConciseBody, ExpressionBody, BlockBody, Method}
-use Rattle.js_tree.specs.Plain.{Declarator, MakeDeclarator, MakeParam, Cases, no_case, more_case, Case, MakeCase}
-use Rattle.js_tree.specs.Plain.{MaybeExpr, none_expr, some_expr, MaybeStmt, none_stmt, some_stmt, File}
+use Rattle.js_tree.specs.Places.{bare_place, stmt_place, stmt_if_place, case_places, leaf_places, body_place, concise_place}
+use Rattle.js_tree.specs.Plain.{Expr, FunctionExpression, ArrowFunction, Conditional, Logical, Parenthesized}
+use Rattle.js_tree.specs.Plain.{Stmt, Directive, Block, VariableDeclaration, Empty, If, Switch, FunctionDeclaration}
+use Rattle.js_tree.specs.Plain.{ExpressionBody, Method}
+use Rattle.js_tree.specs.Plain.{Declarator, MakeDeclarator, MakeParam}
+use Rattle.js_tree.specs.Plain.{MaybeExpr, none_expr, some_expr, MaybeStmt, File}
 use Rattle.js_walk.specs.Part.{Part, AnExpr, AStmt, AProperty, AConciseBody, AParam, ADeclarator}
 use Rattle.js_walk.specs.Walk.{visit, within_expr, within_stmt, within_declarator, walk_file}
 
 -- ---- where something stands
-
--- an expression, without parentheses round it
-abbrev pub bare_place : Expr → Option Loc
-bare_place (IdentifierReference loc _) = loc
-bare_place (This loc) = loc
-bare_place (NullLiteral loc) = loc
-bare_place (BooleanLiteral loc _) = loc
-bare_place (NumericLiteral loc _) = loc
-bare_place (StringLiteral loc _) = loc
-bare_place (ArrayLiteral loc _) = loc
-bare_place (ObjectLiteral loc _) = loc
-bare_place (FunctionExpression loc _ _) = loc
-bare_place (ArrowFunction loc _ _) = loc
-bare_place (RegularExpressionLiteral loc _ _) = loc
-bare_place (TemplateLiteral loc _ _) = loc
-bare_place (Parenthesized _ inner) = bare_place inner
-bare_place (NamedMember loc _ _) = loc
-bare_place (ComputedMember loc _ _) = loc
-bare_place (New loc _ _) = loc
-bare_place (Call loc _ _) = loc
-bare_place (PostfixUpdate loc _ _) = loc
-bare_place (PrefixUpdate loc _ _) = loc
-bare_place (Unary loc _ _) = loc
-bare_place (Binary loc _ _ _) = loc
-bare_place (Logical loc _ _ _) = loc
-bare_place (Conditional loc _ _ _) = loc
-bare_place (Assignment loc _ _ _) = loc
-bare_place (Comma loc _ _) = loc
-
--- a statement
-abbrev pub stmt_place : Stmt → Option Loc
-stmt_place (Directive loc _) = loc
-stmt_place (Block loc _) = loc
-stmt_place (VariableDeclaration loc _ _) = loc
-stmt_place (Empty loc) = loc
-stmt_place (Expression loc _) = loc
-stmt_place (If loc _ _ _) = loc
-stmt_place (DoWhile loc _ _) = loc
-stmt_place (While loc _ _) = loc
-stmt_place (For loc _ _ _ _) = loc
-stmt_place (ForIn loc _ _ _) = loc
-stmt_place (ForOf loc _ _ _) = loc
-stmt_place (Continue loc _) = loc
-stmt_place (Break loc _) = loc
-stmt_place (Return loc _) = loc
-stmt_place (Switch loc _ _) = loc
-stmt_place (Labelled loc _ _) = loc
-stmt_place (Throw loc _) = loc
-stmt_place (TryCatch loc _ _) = loc
-stmt_place (TryFinally loc _ _) = loc
-stmt_place (TryCatchFinally loc _ _ _) = loc
-stmt_place (Debugger loc) = loc
-stmt_place (FunctionDeclaration loc _ _) = loc
-
--- nowhere, where there is no statement
-abbrev pub stmt_if_place : MaybeStmt → Option Loc
-stmt_if_place none_stmt = None
-stmt_if_place (some_stmt s) = stmt_place s
-
--- the cases of a `switch`
-abbrev pub case_place : Case → Option Loc
-case_place (MakeCase loc _ _) = loc
-
-abbrev pub case_places : Cases → List (Option Loc)
-case_places no_case = []
-case_places (more_case x cases) = case_place x ∷ case_places cases
-
--- the leaves of a chain of logical operators, parentheses notwithstanding
-abbrev pub leaf_places : Expr → List (Option Loc)
-leaf_places (Logical _ _ left right) = leaf_places left ++ leaf_places right
-leaf_places (Parenthesized _ inner) = leaf_places inner
-leaf_places leaf = bare_place leaf ∷ []
-
--- the body of a function
-abbrev pub braced_place : FunctionBody → Option Loc
-braced_place (MakeFunctionBody loc _) = loc
-
-abbrev pub body_place : Function → Option Loc
-body_place (MakeFunction _ body) = braced_place body
-
--- the body of an arrow
-abbrev pub concise_place : ConciseBody → Option Loc
-concise_place (ExpressionBody value) = bare_place value
-concise_place (BlockBody body) = braced_place body
 
 -- the one column from here: the greatest column is followed by itself
 abbrev pub one_column : Pos → Loc
@@ -164,7 +81,7 @@ own_stmt stmt = counted (stmt_place stmt)
 -- a function; a condition; a chain of logical operators, unless it goes on a chain that it is in
 abbrev pub own_expr : Bool → Expr → List Construct
 own_expr _ (FunctionExpression loc name function) = counted_function loc name (body_place function)
-own_expr _ (ArrowFunction loc _ body) = counted_function loc None (concise_place body)
+own_expr _ (ArrowFunction loc _ _ body) = counted_function loc None (concise_place body)
 own_expr _ (Conditional loc _ holds fails) = branch branch_kind.Conditional loc (bare_place holds ∷ bare_place fails ∷ [])
 own_expr false (Logical loc _ left right) = branch branch_kind.Logical loc (leaf_places left ++ leaf_places right)
 own_expr _ _ = []

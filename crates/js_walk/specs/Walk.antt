@@ -1,8 +1,8 @@
 -- A walk through a file: a part before what is in it, and from left to right. What a part gives (`own`) depends on what the
 -- part that it is in tells it (`down`).
 use Rattle.std.specs.Prelude.{List, [], ◌++◌, Option, Some, None}
-use Rattle.js_tree.specs.Plain.{Expr, IdentifierReference, This, NullLiteral, BooleanLiteral, NumericLiteral, StringLiteral, ArrayLiteral, ObjectLiteral, FunctionExpression, ArrowFunction, RegularExpressionLiteral, TemplateLiteral, Parenthesized, NamedMember, ComputedMember, New, Call, PostfixUpdate, PrefixUpdate, Unary, Binary, Logical, Conditional, Assignment, Comma}
-use Rattle.js_tree.specs.Plain.{Stmt, Directive, Block, VariableDeclaration, Empty, Expression, If, DoWhile, While, For, ForIn, ForOf, Continue, Break, Return, Switch, Labelled, Throw, TryCatch, TryFinally, TryCatchFinally, Debugger, FunctionDeclaration}
+use Rattle.js_tree.specs.Plain.{Expr, IdentifierReference, This, NullLiteral, BooleanLiteral, NumericLiteral, StringLiteral, ArrayLiteral, ObjectLiteral, FunctionExpression, ArrowFunction, RegularExpressionLiteral, TemplateLiteral, Parenthesized, NamedMember, ComputedMember, New, Call, PostfixUpdate, PrefixUpdate, Unary, Binary, Logical, Conditional, Assignment, Comma, Entered}
+use Rattle.js_tree.specs.Plain.{Stmt, Directive, Block, VariableDeclaration, Empty, Expression, If, DoWhile, While, For, ForIn, ForOf, Continue, Break, Return, Switch, Labelled, Throw, TryCatch, TryFinally, TryCatchFinally, Debugger, FunctionDeclaration, EnteredStmt}
 use Rattle.js_tree.specs.Plain.{Property, Shorthand, KeyValue, Method}
 use Rattle.js_tree.specs.Plain.{PropertyKey, NameKey, StringKey, NumberKey, ComputedKey}
 use Rattle.js_tree.specs.Plain.{ConciseBody, ExpressionBody, BlockBody}
@@ -10,14 +10,14 @@ use Rattle.js_tree.specs.Plain.{ForInit, NoInit, InitDeclaration, InitExpression
 use Rattle.js_tree.specs.Plain.{ForTarget, TargetDeclaration, TargetExpression}
 use Rattle.js_tree.specs.Plain.{TemplatePart, MakeTemplatePart}
 use Rattle.js_tree.specs.Plain.{Function, MakeFunction}
-use Rattle.js_tree.specs.Plain.{FunctionBody, MakeFunctionBody}
+use Rattle.js_tree.specs.Plain.{FunctionBody, MakeFunctionBody, EnteredBody}
 use Rattle.js_tree.specs.Plain.{Param, MakeParam}
 use Rattle.js_tree.specs.Plain.{Declarator, MakeDeclarator}
-use Rattle.js_tree.specs.Plain.{Case, MakeCase}
+use Rattle.js_tree.specs.Plain.{Case, MakeCase, EnteredCase}
 use Rattle.js_tree.specs.Plain.{Catch, MakeCatch}
 use Rattle.js_tree.specs.Plain.{MaybePattern, none_pattern, some_pattern}
 use Rattle.js_tree.specs.Plain.{MaybeExpr, none_expr, some_expr}
-use Rattle.js_tree.specs.Plain.{MaybeStmt, none_stmt, some_stmt}
+use Rattle.js_tree.specs.Plain.{MaybeStmt, none_stmt, some_stmt, entered_none}
 use Rattle.js_tree.specs.Plain.{TemplateParts, no_template_part, more_template_part}
 use Rattle.js_tree.specs.Plain.{Properties, no_property, more_property}
 use Rattle.js_tree.specs.Plain.{Params, no_param, more_param}
@@ -48,7 +48,7 @@ abbrev mutual
   within_expr own down (ArrayLiteral _ items) c = within_exprs own down items c
   within_expr own down (ObjectLiteral _ properties) c = within_properties own down properties c
   within_expr own down (FunctionExpression _ _ function) c = visit own down c (AFunction function) (within_function own down function)
-  within_expr own down (ArrowFunction _ params body) c = within_params own down params c ++ visit own down c (AConciseBody body) (within_concise_body own down body)
+  within_expr own down (ArrowFunction _ _ params body) c = within_params own down params c ++ visit own down c (AConciseBody body) (within_concise_body own down body)
   within_expr own down (RegularExpressionLiteral _ _ _) c = []
   within_expr own down (TemplateLiteral _ _ parts) c = within_template_parts own down parts c
   within_expr own down (Parenthesized _ inner) c = visit own down c (AnExpr inner) (within_expr own down inner)
@@ -64,6 +64,7 @@ abbrev mutual
   within_expr own down (Conditional _ test holds fails) c = visit own down c (AnExpr test) (within_expr own down test) ++ visit own down c (AnExpr holds) (within_expr own down holds) ++ visit own down c (AnExpr fails) (within_expr own down fails)
   within_expr own down (Assignment _ _ target value) c = visit own down c (AnExpr target) (within_expr own down target) ++ visit own down c (AnExpr value) (within_expr own down value)
   within_expr own down (Comma _ left right) c = visit own down c (AnExpr left) (within_expr own down left) ++ visit own down c (AnExpr right) (within_expr own down right)
+  within_expr own down (Entered _ inner) c = visit own down c (AnExpr inner) (within_expr own down inner)
 
   pub within_stmt : {C A : Type 0} → (C → Part → List A) → (C → Part → Option C) → Stmt → C → List A
   within_stmt own down (Directive _ _) c = []
@@ -88,6 +89,7 @@ abbrev mutual
   within_stmt own down (TryCatchFinally _ block catch finally) c = within_stmts own down block c ++ visit own down c (ACatch catch) (within_catch own down catch) ++ within_stmts own down finally c
   within_stmt own down (Debugger _) c = []
   within_stmt own down (FunctionDeclaration _ _ function) c = visit own down c (AFunction function) (within_function own down function)
+  within_stmt own down (EnteredStmt _ inner) c = visit own down c (AStmt inner) (within_stmt own down inner)
 
   pub within_property : {C A : Type 0} → (C → Part → List A) → (C → Part → Option C) → Property → C → List A
   within_property own down (Shorthand _ _) c = []
@@ -117,10 +119,11 @@ abbrev mutual
   within_template_part own down (MakeTemplatePart value _) c = visit own down c (AnExpr value) (within_expr own down value)
 
   pub within_function : {C A : Type 0} → (C → Part → List A) → (C → Part → Option C) → Function → C → List A
-  within_function own down (MakeFunction params body) c = within_params own down params c ++ visit own down c (AFunctionBody body) (within_function_body own down body)
+  within_function own down (MakeFunction _ params body) c = within_params own down params c ++ visit own down c (AFunctionBody body) (within_function_body own down body)
 
   pub within_function_body : {C A : Type 0} → (C → Part → List A) → (C → Part → Option C) → FunctionBody → C → List A
   within_function_body own down (MakeFunctionBody _ statements) c = within_stmts own down statements c
+  within_function_body own down (EnteredBody _ body) c = visit own down c (AFunctionBody body) (within_function_body own down body)
 
   pub within_param : {C A : Type 0} → (C → Part → List A) → (C → Part → Option C) → Param → C → List A
   within_param own down (MakeParam _ pattern default) c = own c (APattern pattern) ++ within_expr_if own down default c
@@ -130,6 +133,7 @@ abbrev mutual
 
   pub within_case : {C A : Type 0} → (C → Part → List A) → (C → Part → Option C) → Case → C → List A
   within_case own down (MakeCase _ test statements) c = within_expr_if own down test c ++ within_stmts own down statements c
+  within_case own down (EnteredCase _ x) c = visit own down c (ACase x) (within_case own down x)
 
   pub within_catch : {C A : Type 0} → (C → Part → List A) → (C → Part → Option C) → Catch → C → List A
   within_catch own down (MakeCatch parameter statements) c = within_pattern_if own down parameter c ++ within_stmts own down statements c
@@ -145,6 +149,7 @@ abbrev mutual
   pub within_stmt_if : {C A : Type 0} → (C → Part → List A) → (C → Part → Option C) → MaybeStmt → C → List A
   within_stmt_if own down none_stmt c = []
   within_stmt_if own down (some_stmt x) c = visit own down c (AStmt x) (within_stmt own down x)
+  within_stmt_if own down (entered_none _) c = []
 
   pub within_template_parts : {C A : Type 0} → (C → Part → List A) → (C → Part → Option C) → TemplateParts → C → List A
   within_template_parts own down no_template_part c = []

@@ -5,6 +5,7 @@
 
 mod call;
 mod names;
+mod parts;
 mod place;
 mod script;
 mod shape;

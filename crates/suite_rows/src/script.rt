@@ -8,6 +8,8 @@
 //     (no word)        from here on the store is empty, and nothing fails
 //     cov WORDS        calls the program: below it stand the lines printed (`>`) and said (`!`), and the status (`=`)
 //     puts PATH WORDS  the same, and what the store then holds at the path (`+`)
+//     parts N,N,.. TEXT   runs the text by so many steps, then by so many more: for each part the lines printed so far
+//                      (`>`), and how the run ends with the steps given so far (`=`)
 //     tokens TEXT      the text's tokens
 //     template TEXT    the token that continues a template at the text's start
 //     tree TEXT        the tree that the text is read to
@@ -19,6 +21,7 @@
 // ends the program.
 use crate::call::Setting;
 use crate::names::names_of;
+use crate::parts::run_parts;
 use crate::shape::{height_of, same_of};
 use crate::spelled::bytes_of;
 use crate::tokens::{template_of, tokens_of};
@@ -72,6 +75,7 @@ fn perform(
             Ok(true)
         }
         "puts" => setting.call_putting(alloc, rest, page),
+        "parts" => run_parts(alloc, rest, page),
         _ => match answer(alloc, word, rest)? {
             Some(answer) => {
                 page.push_str("> ")?;

@@ -1,21 +1,31 @@
--- The steps by which the opening realm is made.
-use Rattle.std.specs.Prelude.{List, [], ◌∷◌, ◌++◌, None, Some, codes}
-use Rattle.js_value.specs.State.{Plain, ObjectRecord, Store}
-use Rattle.js_value.specs.declared.error_kind.ErrorKind.TheVariants.{Error}
-use Rattle.js_value.specs.Realm.{object_prototype, error_prototype, the_global_object, built_in, the_error_prototype}
+-- What holds of the heap while the opening realm is made.
+use Rattle.std.specs.Prelude.{◌≡◌, ℕ, ◌+◌, false, List, length, Option}
+use Rattle.std.specs.Borrow.{Bor}
+use Rattle.js_value.specs.declared.built_in.BuiltIn.{BuiltIn}
+use Rattle.js_value.specs.declared.built_in.Place.{Place}
+use Rattle.js_value.specs.State.{Heap}
+use Rattle.js_value.specs.Objects.{kind_of, is_array}
+use Rattle.js_value.specs.Realm.{Row}
 
--- a store with one more object
-abbrev pub with_added : ObjectRecord → Store → Store
-with_added object s = record s { objects = s.objects ++ object ∷ [] }
+-- no object is an array
+pub record NoArrays (h : Heap) : Type 0 where
+  pub none : (o : ℕ) → is_array (kind_of h o) ≡ false
 
--- the objects before those that errors inherit from
-abbrev pub first_objects : List ObjectRecord
-first_objects = built_in Plain None [] ∷ the_global_object ∷ built_in Plain (Some object_prototype) [] ∷ []
+-- so many objects, no array, and no environment
+pub record IsOfSize (n : ℕ) (h : Heap) : Type 0 where
+  pub objects : length h.objects ≡ n
+  pub environments : length h.environments ≡ 0
+  pub plain : NoArrays h
 
-abbrev pub error_prototypes : List ObjectRecord
-error_prototypes =
-    the_error_prototype (codes "Error") object_prototype ∷
-    the_error_prototype (codes "TypeError") (error_prototype Error) ∷
-    the_error_prototype (codes "RangeError") (error_prototype Error) ∷
-    the_error_prototype (codes "ReferenceError") (error_prototype Error) ∷
-    the_error_prototype (codes "SyntaxError") (error_prototype Error) ∷ []
+-- the second has so many objects more than the first, no array, and as many environments
+pub record SameSize (more : ℕ) (g h : Heap) : Type 0 where
+  pub objects : length h.objects ≡ length g.objects + more
+  pub environments : length h.environments ≡ length g.environments
+  pub plain : NoArrays h
+
+-- the rows of the tables, as the code holds them
+abbrev pub row_seen : BuiltIn × Option Place × Bor (List ℕ) × ℕ → Row
+row_seen r = record { function = r.0; holder = r.1; name = r.2.now; length = r.3 }
+
+abbrev pub error_seen : Place × Bor (List ℕ) → Place × List ℕ
+error_seen r = (r.0, r.1.now)

@@ -11,6 +11,7 @@ use Rattle.js_machine.specs.declared.data.Rest.TheVariants as rest
 use Rattle.js_machine.specs.declared.data.Move.{Move}
 use Rattle.js_machine.specs.declared.data.Move.TheVariants as move
 use Rattle.js_machine.specs.declared.state.State.{State}
+use Rattle.js_code.specs.Node.{Reader}
 use Rattle.js_machine.specs.private.Config.{View, control_comp, control_weight, frames_weight, plug}
 use Rattle.js_machine.specs.private.State.{store_in}
 
@@ -30,7 +31,7 @@ pub record Leads (t : View) (a b : Here) : Type 0 where
       exec inside n (todo t a) (store_in base a.state) ≡ exec inside n (todo t b) (store_in base b.state)
 
 -- the work that is left up to the next step that is asked for
-abbrev pub work : View → Here → ℕ
+abbrev pub work : Reader → Here → ℕ
 work t h = frames_weight t h.frames + control_weight t h.control
 
 -- where the machine can't go on by itself; where it is done, nothing waits
@@ -49,7 +50,7 @@ here frames next state = record { frames = frames; control = next; state = state
 
 -- a transition leads on and leaves less work, or the machine can't go on by itself and nothing changes
 abbrev pub Moves : View → Here → Move → List Frame → State → Type 0
-Moves t h (move.Next c) fs s = Leads t h (here fs c s) × (work t (here fs c s) < work t h)
+Moves t h (move.Next c) fs s = Leads t h (here fs c s) × (work t.tree (here fs c s) < work t.tree h)
 Moves t h (move.At r) fs s = IsAt r h.control fs × (fs ≡ h.frames) × (s ≡ h.state)
 
 -- transitions lead to where the machine can't go on by itself

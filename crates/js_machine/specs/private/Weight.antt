@@ -1,7 +1,7 @@
 -- How much there is to do in a tree before the next step is asked for, at most.
 use Rattle.std.specs.Prelude.{ℕ, ◌+◌}
 use Rattle.js_tree.specs.Plain.{Expr, IdentifierReference, Parenthesized, Call, Binary, Assignment, Exprs, no_expr, more_expr}
-use Rattle.js_tree.specs.Plain.{Stmt, Block, VariableDeclaration, Expression, If, While, Stmts, no_stmt, more_stmt, MaybeStmt, none_stmt, some_stmt}
+use Rattle.js_tree.specs.Plain.{Stmt, Block, VariableDeclaration, Expression, If, While, Stmts, no_stmt, more_stmt, MaybeStmt, none_stmt, some_stmt, entered_none}
 use Rattle.js_tree.specs.Plain.{Declarator, MakeDeclarator, Declarators, no_declarator, more_declarator, MaybeExpr, none_expr, some_expr}
 
 abbrev mutual
@@ -44,3 +44,4 @@ abbrev mutual
   pub weight_stmt_if : MaybeStmt → ℕ
   weight_stmt_if none_stmt = 1
   weight_stmt_if (some_stmt x) = weight_stmt x + 1
+  weight_stmt_if (entered_none mark) = 1

@@ -1,6 +1,6 @@
 -- What is left of the cases comes after what is out already.
 use Rattle.std.proofs.Common.{◌≡◌, ◌++◌, drop}
-use Rattle.js_walk.specs.Constructs.{case_places}
+use Rattle.js_tree.specs.Places.{case_places}
 use Rattle.js_tree.specs.Tree.{plain_cases}
 use Rattle.cov_maps.proofs.places.push_case_places.Given as goal
 

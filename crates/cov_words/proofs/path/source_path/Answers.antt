@@ -3,7 +3,7 @@ use Rattle.std.proofs.Common.{◌≡◌, ◌∙◌, eqb, Some, Global, ap, sym, 
 use Rattle.std.specs.Prelude.{codes, option_map}
 use Rattle.std.specs.List.{ends_with}
 use Rattle.std.proofs.lemmas.Str.Pattern.{ends_text}
-use Rattle.cov_words.specs.Path.{normal}
+use Rattle.path_globs.specs.NormalForm.{normal}
 use Rattle.cov_words.proofs.PathLemmas.{no_source}
 use Rattle.cov_words.proofs.path.source_path.Goals as goal
 

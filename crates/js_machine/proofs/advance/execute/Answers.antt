@@ -1,23 +1,18 @@
 use Rattle.std.proofs.Common.{sym, ap, ◌∙◌, ◌<◌, subst, []}
-use Rattle.js_code.specs.declared.node.Node.TheVariants.{NoStatement}
-use Rattle.js_meaning.specs.Marks.{Unmarked}
+use Rattle.js_code.specs.Code.{reader}
 use Rattle.js_meaning.specs.Meaning.{comp_stmt}
 use Rattle.js_machine.specs.private.Weight.{weight_stmt}
-use Rattle.js_machine.specs.private.Config.{view_of, step_comp, step_weight}
+use Rattle.js_machine.specs.private.Config.{view_of, step_weight}
 use Rattle.js_machine.proofs.Places.{stmt_at}
 use Rattle.js_machine.proofs.advance.execute.Goals as goal
 
-pub returns-in-Some-clause-means : goal.returns-in-Some-clause-means
-returns-in-Some-clause-means c =
-    c.begin_statement.ensures.means (view_of c.args.code.now)
-    ∙ ap (λ x. comp_stmt x Unmarked [] c.args.env.index) (stmt_at c.args.code.now c.node.ensures.ordered c.args.place c.in-Some.node.now c.in-Some.ensures.is)
+pub returns-clause-means : goal.returns-clause-means
+returns-clause-means c = λ p.
+    let at = stmt_at c.args.code.now c.node.ensures.ordered c.args.place c.node.result.now c.node.ensures.is in
+    c.begin_statement.ensures.means (view_of p c.args.code.now) (sym at) ∙ ap (λ x. comp_stmt p x [] c.args.env.index) at
 
-pub returns-in-Some-clause-less : goal.returns-in-Some-clause-less
-returns-in-Some-clause-less c =
-    subst (λ x. step_weight (view_of c.args.code.now) c.begin_statement.result < weight_stmt x) (stmt_at c.args.code.now c.node.ensures.ordered c.args.place c.in-Some.node.now c.in-Some.ensures.is)
-    (c.begin_statement.ensures.less (view_of c.args.code.now))
-
-pub returns-in-None-clause-means : goal.returns-in-None-clause-means
-returns-in-None-clause-means c =
-    ap (step_comp (view_of c.args.code.now)) c.undefined.ensures
-    ∙ ap (λ x. comp_stmt x Unmarked [] c.args.env.index) (stmt_at c.args.code.now c.node.ensures.ordered c.args.place NoStatement (sym c.in-None.ensures.is))
+pub returns-clause-less : goal.returns-clause-less
+returns-clause-less c =
+    subst (λ x. step_weight (reader c.args.code.now) c.begin_statement.result < weight_stmt x)
+    (stmt_at c.args.code.now c.node.ensures.ordered c.args.place c.node.result.now c.node.ensures.is)
+    (c.begin_statement.ensures.less (reader c.args.code.now))

@@ -1,23 +1,19 @@
-use Rattle.std.proofs.Common.{sym, ap, ◌∙◌, ◌<◌, subst}
-use Rattle.js_code.specs.declared.node.Node.TheVariants.{NoStatement}
-use Rattle.js_meaning.specs.Marks.{Unmarked}
+use Rattle.std.proofs.Common.{ap, ◌∙◌, ◌<◌, subst}
+use Rattle.js_code.specs.Code.{reader}
 use Rattle.js_meaning.specs.Meaning.{comp_arguments}
 use Rattle.js_machine.specs.private.Weight.{weight_exprs}
 use Rattle.js_machine.specs.private.Config.{view_of, step_weight}
 use Rattle.js_machine.proofs.Places.{exprs_at}
 use Rattle.js_machine.proofs.advance.gather.Goals as goal
 
-pub returns-in-Some-clause-means : goal.returns-in-Some-clause-means
-returns-in-Some-clause-means c =
-    c.begin_arguments.ensures.means (view_of c.args.code.now)
-    ∙ ap (λ x. comp_arguments x Unmarked c.args.env.index c.args.callee c.args.this c.args.done) (exprs_at c.args.code.now c.node.ensures.ordered c.args.place c.in-Some.node.now c.in-Some.ensures.is)
+pub returns-clause-means : goal.returns-clause-means
+returns-clause-means c = λ p.
+    c.begin_arguments.ensures.means (view_of p c.args.code.now)
+    ∙ ap (λ x. comp_arguments p x c.args.env.index c.args.callee c.args.this c.args.done)
+    (exprs_at c.args.code.now c.node.ensures.ordered c.args.place c.node.result.now c.node.ensures.is)
 
-pub returns-in-Some-clause-less : goal.returns-in-Some-clause-less
-returns-in-Some-clause-less c =
-    subst (λ x. step_weight (view_of c.args.code.now) c.begin_arguments.result < weight_exprs x) (exprs_at c.args.code.now c.node.ensures.ordered c.args.place c.in-Some.node.now c.in-Some.ensures.is)
-    (c.begin_arguments.ensures.less (view_of c.args.code.now))
-
-pub returns-in-None-clause-means : goal.returns-in-None-clause-means
-returns-in-None-clause-means c =
-    c.begin_call.ensures.means (view_of c.args.code.now)
-    ∙ ap (λ x. comp_arguments x Unmarked c.args.env.index c.args.callee c.args.this c.args.done) (exprs_at c.args.code.now c.node.ensures.ordered c.args.place NoStatement (sym c.in-None.ensures.is))
+pub returns-clause-less : goal.returns-clause-less
+returns-clause-less c =
+    subst (λ x. step_weight (reader c.args.code.now) c.begin_arguments.result < weight_exprs x)
+    (exprs_at c.args.code.now c.node.ensures.ordered c.args.place c.node.result.now c.node.ensures.is)
+    (c.begin_arguments.ensures.less (reader c.args.code.now))

@@ -1,12 +1,12 @@
 use Rattle.std.proofs.Common.{◌≡◌, drop}
-use Rattle.js_heap.specs.Heap.{store_of, HoldsEnvironment}
+use Rattle.js_heap.specs.Heap.{heap_of, HoldsEnvironment}
 use Rattle.js_meaning.specs.Files.{declare_all, variables}
 use Rattle.js_machine.proofs.opening.declare_names.Given as goal
 
 -- what is left to be declared
 abbrev pub invariant-loop-name : goal.invariant-loop-name
 invariant-loop-name l = record {
-  held : HoldsEnvironment (store_of l.heap) l.env.index;
-  left : declare_all l.env.index (variables (drop l.name-index l.names)) (store_of l.heap)
-      ≡ declare_all l.env.index (variables l.names) (store_of l.fn.heap);
+  held : HoldsEnvironment (heap_of l.heap) l.env.index;
+  left : declare_all l.env.index (variables (drop l.name-index l.names)) (heap_of l.heap)
+      ≡ declare_all l.env.index (variables l.names) (heap_of l.fn.heap);
 }

@@ -6,4 +6,4 @@ use Rattle.js_machine.specs.private.Runs.{Takes}
 use Rattle.js_machine.proofs.run.run_on.Given as goal
 
 abbrev pub invariant-loop : goal.invariant-loop
-invariant-loop l = (p : Sources) → Takes p (view_of l.code) l.counter (here l.fn.frames.items l.fn.control l.fn.state) (here l.frames.items l.at l.state)
+invariant-loop l = (p : Sources) → Takes p (view_of p l.code) l.counter (here l.fn.frames.items l.fn.control l.fn.state) (here l.frames.items l.at l.state)

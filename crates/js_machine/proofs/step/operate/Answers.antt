@@ -3,7 +3,7 @@ use Rattle.js_machine.proofs.Operators.{not_said, said_value, said_refusal}
 use Rattle.js_machine.proofs.step.operate.Goals as goal
 
 pub returns-then-not-is_said-clause-means : goal.returns-then-not-is_said-clause-means
-returns-then-not-is_said-clause-means c = λ t. rw c.primitive.ensures (sym (not_said _ _ _ (sym c.if-not-is_said.ensures)))
+returns-then-not-is_said-clause-means c = λ t. rw c.unsaid.ensures (sym (not_said _ _ _ (sym c.if-not-is_said.ensures)))
 
 pub returns-in-Ok-clause-means : goal.returns-in-Ok-clause-means
 returns-in-Ok-clause-means c = λ t. rw c.value.ensures (sym (said_value _ _ _ _ (sym c.if-not-is_said.ensures) c.in-Ok.ensures.ok))

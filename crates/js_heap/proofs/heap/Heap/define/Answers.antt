@@ -1,7 +1,7 @@
 use Rattle.std.proofs.Common.{ap, ◌∙◌}
 use Rattle.js_value.specs.Objects.{no_object}
 use Rattle.js_heap.specs.Object.{plain_object, property_with}
-use Rattle.js_heap.specs.Heap.{store_of}
+use Rattle.js_heap.specs.Heap.{heap_of}
 use Rattle.js_heap.specs.private.Object.{with_defined}
 use Rattle.js_heap.proofs.Lists.{map-set_by, map-set_same}
 use Rattle.js_heap.proofs.Older.{prototypes-set}
@@ -15,12 +15,12 @@ invariant_of-self-clause-prototypes c =
 pub returns-clause-ok : goal.returns-clause-ok
 returns-clause-ok c =
     OnOk_then c.define.result c.define.ensures.ok (λ defined.
-    ap (λ os. record (store_of c.args.self.now) { objects = os })
+    ap (λ os. record (heap_of c.args.self.now) { objects = os })
     (map-set_by plain_object (with_defined (property_with c.args.name.now c.args.value c.args.flags)) c.args.self.now.objects.items _ _ c.define.new.self _ no_object c.index.ensures c.requires.object c.index_mut-record.ensures.value
     (defined ∙ ap (λ key. with_defined (property_with key c.args.value c.args.flags) (plain_object c.index_mut-record.result.now)) c.in_ok-key.ensures)))
 
 pub returns-clause-err : goal.returns-clause-err
 returns-clause-err c =
     OnErr_then c.define.result c.define.ensures.err (λ kept.
-    ap (λ os. record (store_of c.args.self.now) { objects = os })
+    ap (λ os. record (heap_of c.args.self.now) { objects = os })
     (map-set_same plain_object c.args.self.now.objects.items _ _ c.define.new.self _ no_object c.index.ensures c.requires.object c.index_mut-record.ensures.value kept))

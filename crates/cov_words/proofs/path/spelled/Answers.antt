@@ -1,6 +1,0 @@
-use Rattle.std.proofs.Common.{◌∙◌, sym, rules}
-use Rattle.cov_words.proofs.PathLemmas.{join_by-slash}
-use Rattle.cov_words.proofs.path.spelled.Goals as goal
-
-pub returns : goal.returns
-returns c = rw (sym c.root_of-root.ensures, sym (c.in_ok-joined.ensures.ok ∙ join_by-slash c.args.components.now)) (search rules)

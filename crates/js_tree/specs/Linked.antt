@@ -1,0 +1,344 @@
+-- A tree with its marks and its functions' numbers, made once from the tree as it is read: by cases, and in the order of the
+-- text. The numbers of constructs go by kind from 0 in each file, a parent before what is in it; those of functions go through the
+-- whole program.
+use Rattle.std.specs.Prelude.{ℕ, suc, ◌+◌, Bool, true, false, Option, Some, None, length}
+use Rattle.js_tree.specs.declared.place.Loc.{Loc}
+use Rattle.js_tree.specs.declared.construct.ConstructKind.{ConstructKind}
+use Rattle.js_tree.specs.declared.construct.ConstructKind.TheVariants as construct_kind
+use Rattle.js_tree.specs.declared.words.Identifier.{Identifier}
+use Rattle.js_tree.specs.Mark.{Mark}
+use Rattle.js_tree.specs.Places.{bare_place, concise_place, braced_place, leaf_places}
+use Rattle.js_tree.specs.Plain.{Expr, IdentifierReference, This, NullLiteral, BooleanLiteral, NumericLiteral, StringLiteral, ArrayLiteral, ObjectLiteral, FunctionExpression, ArrowFunction, RegularExpressionLiteral, TemplateLiteral, Parenthesized, NamedMember, ComputedMember, New, Call, PostfixUpdate, PrefixUpdate, Unary, Binary, Logical, Conditional, Assignment, Comma, Entered}
+use Rattle.js_tree.specs.Plain.{Stmt, Directive, Block, VariableDeclaration, Empty, Expression, If, DoWhile, While, For, ForIn, ForOf, Continue, Break, Return, Switch, Labelled, Throw, TryCatch, TryFinally, TryCatchFinally, Debugger, FunctionDeclaration, EnteredStmt}
+use Rattle.js_tree.specs.Plain.{Property, Shorthand, KeyValue, Method}
+use Rattle.js_tree.specs.Plain.{PropertyKey, NameKey, StringKey, NumberKey, ComputedKey}
+use Rattle.js_tree.specs.Plain.{ConciseBody, ExpressionBody, BlockBody}
+use Rattle.js_tree.specs.Plain.{ForInit, NoInit, InitDeclaration, InitExpression}
+use Rattle.js_tree.specs.Plain.{ForTarget, TargetDeclaration, TargetExpression}
+use Rattle.js_tree.specs.Plain.{TemplatePart, MakeTemplatePart}
+use Rattle.js_tree.specs.Plain.{Function, MakeFunction}
+use Rattle.js_tree.specs.Plain.{FunctionBody, MakeFunctionBody, EnteredBody}
+use Rattle.js_tree.specs.Plain.{Param, MakeParam}
+use Rattle.js_tree.specs.Plain.{Declarator, MakeDeclarator}
+use Rattle.js_tree.specs.Plain.{Case, MakeCase, EnteredCase}
+use Rattle.js_tree.specs.Plain.{Catch, MakeCatch}
+use Rattle.js_tree.specs.Plain.{MaybeExpr, none_expr, some_expr}
+use Rattle.js_tree.specs.Plain.{MaybeStmt, none_stmt, some_stmt, entered_none}
+use Rattle.js_tree.specs.Plain.{Exprs, no_expr, more_expr}
+use Rattle.js_tree.specs.Plain.{TemplateParts, no_template_part, more_template_part}
+use Rattle.js_tree.specs.Plain.{Properties, no_property, more_property}
+use Rattle.js_tree.specs.Plain.{Params, no_param, more_param}
+use Rattle.js_tree.specs.Plain.{Stmts, no_stmt, more_stmt}
+use Rattle.js_tree.specs.Plain.{Declarators, no_declarator, more_declarator}
+use Rattle.js_tree.specs.Plain.{Cases, no_case, more_case}
+use Rattle.js_tree.specs.Plain.{File, MakeFile}
+
+-- whether constructs are entered: in no file that isn't counted; in a counted one, by its number in the program
+pub data Marking : Type 0 where
+  Unmarked : Marking
+  Marked : (file : ℕ) → Marking
+
+-- the next number of each kind of construct
+pub record Counts : Type 0 where
+  pub statements : ℕ
+  pub functions : ℕ
+  pub branches : ℕ
+
+-- the next number of a function of the program, and those of the file's constructs
+pub record Numbers : Type 0 where
+  pub code : ℕ
+  pub counts : Counts
+
+-- the next number of a kind, and the numbers after it
+abbrev pub next_of : ConstructKind → Counts → ℕ
+next_of construct_kind.Statement c = c.statements
+next_of construct_kind.Function c = c.functions
+next_of construct_kind.Branch c = c.branches
+
+abbrev pub after_one : ConstructKind → Counts → Counts
+after_one construct_kind.Statement c = record { statements = suc c.statements; functions = c.functions; branches = c.branches }
+after_one construct_kind.Function c = record { statements = c.statements; functions = suc c.functions; branches = c.branches }
+after_one construct_kind.Branch c = record { statements = c.statements; functions = c.functions; branches = suc c.branches }
+
+abbrev pub after_code : Numbers → Numbers
+after_code k = record { code = suc k.code; counts = k.counts }
+
+-- a tree, and the numbers after it
+pub record Linked (T : Type 0) : Type 0 where
+  pub tree : T
+  pub next : Numbers
+
+-- a form by how many parts it has, one after another
+abbrev pub kept : {T : Type 0} → T → Numbers → Linked T
+kept t k = record { tree = t; next = k }
+
+abbrev pub made : {A T : Type 0} → (A → T) → Linked A → Linked T
+made f a = record { tree = f a.tree; next = a.next }
+
+abbrev pub two : {A B T : Type 0} → (A → B → T) → Linked A → (Numbers → Linked B) → Linked T
+two f a b = made (f a.tree) (b a.next)
+
+abbrev pub three : {A B C T : Type 0} → (A → B → C → T) → Linked A → (Numbers → Linked B) → (Numbers → Linked C) → Linked T
+three f a b c = two (f a.tree) (b a.next) c
+
+abbrev pub four : {A B C D T : Type 0} → (A → B → C → D → T) → Linked A → (Numbers → Linked B) → (Numbers → Linked C) → (Numbers → Linked D) → Linked T
+four f a b c d = three (f a.tree) (b a.next) c d
+
+-- ---- the marks of a construct
+
+-- none, where it isn't counted; or one for each of its paths
+pub data Marks : Type 0 where
+  Uncounted : Marks
+  Counted : (file : ℕ) → (kind : ConstructKind) → (number : ℕ) → Marks
+
+abbrev pub mark : ℕ → ConstructKind → ℕ → ℕ → Mark
+mark file kind number path = record { file = file; kind = kind; number = number; path = path }
+
+-- of a construct of a kind that stands here, and the numbers after it: what stands nowhere was inserted, and isn't counted
+abbrev pub marks : Marking → ConstructKind → Option Loc → Numbers → Marks
+marks Unmarked kind loc k = Uncounted
+marks (Marked file) kind None k = Uncounted
+marks (Marked file) kind (Some loc) k = Counted file kind (next_of kind k.counts)
+
+abbrev pub after_marks : Marking → ConstructKind → Option Loc → Numbers → Numbers
+after_marks Unmarked kind loc k = k
+after_marks (Marked file) kind None k = k
+after_marks (Marked file) kind (Some loc) k = record { code = k.code; counts = after_one kind k.counts }
+
+-- a construct has its number before what is in it
+abbrev pub counting : {T : Type 0} → Marking → ConstructKind → Option Loc → (Marks → Numbers → Linked T) → Numbers → Linked T
+counting m kind loc f k = f (marks m kind loc k) (after_marks m kind loc k)
+
+-- ---- what enters a construct by one of its paths
+
+abbrev pub enter_expr : Marks → ℕ → Expr → Expr
+enter_expr Uncounted path e = e
+enter_expr (Counted file kind number) path e = Entered (mark file kind number path) e
+
+abbrev pub enter_stmt : Marks → ℕ → Stmt → Stmt
+enter_stmt Uncounted path x = x
+enter_stmt (Counted file kind number) path x = EnteredStmt (mark file kind number path) x
+
+abbrev pub enter_case : Marks → ℕ → Case → Case
+enter_case Uncounted path x = x
+enter_case (Counted file kind number) path x = EnteredCase (mark file kind number path) x
+
+-- an arm that is missing is entered where it would begin
+abbrev pub entered_arm : Mark → MaybeStmt → MaybeStmt
+entered_arm m none_stmt = entered_none m
+entered_arm m (some_stmt x) = some_stmt (EnteredStmt m x)
+entered_arm m (entered_none n) = entered_none m
+
+abbrev pub enter_arm : Marks → ℕ → MaybeStmt → MaybeStmt
+enter_arm Uncounted path x = x
+enter_arm (Counted file kind number) path x = entered_arm (mark file kind number path) x
+
+-- the leaves of a chain of logical operators, from left to right
+abbrev pub enter_leaves : Marks → ℕ → Expr → Expr
+enter_leaves b path (Logical loc operator left right) =
+    Logical loc operator (enter_leaves b path left) (enter_leaves b (path + length (leaf_places left)) right)
+enter_leaves b path (Parenthesized loc inner) = Parenthesized loc (enter_leaves b path inner)
+enter_leaves b path leaf = enter_expr b path leaf
+
+-- a function is entered where its body starts
+abbrev pub enter_body : Marks → FunctionBody → FunctionBody
+enter_body Uncounted body = body
+enter_body (Counted file kind number) body = EnteredBody (mark file kind number 0) body
+
+abbrev pub enter_concise_body : Marks → ConciseBody → ConciseBody
+enter_concise_body f (ExpressionBody e) = ExpressionBody (enter_expr f 0 e)
+enter_concise_body f (BlockBody body) = BlockBody (enter_body f body)
+
+-- ---- the constructs
+
+-- a statement, and an expression that is counted as one
+abbrev pub counted_stmt : Marking → Option Loc → (Numbers → Linked Stmt) → Numbers → Linked Stmt
+counted_stmt m loc f k = counting m construct_kind.Statement loc (λ s k. made (enter_stmt s 0) (f k)) k
+
+abbrev pub counted_expr : Marking → Option Loc → (Numbers → Linked Expr) → Numbers → Linked Expr
+counted_expr m loc f k = counting m construct_kind.Statement loc (λ s k. made (enter_expr s 0) (f k)) k
+
+abbrev pub branched : {T : Type 0} → Marking → Option Loc → (Marks → Numbers → Linked T) → Numbers → Linked T
+branched m loc f k = counting m construct_kind.Branch loc f k
+
+-- a function is counted where it stands somewhere, and its name, where it has one, and its body do
+abbrev pub both : Option Loc → Option Loc → Option Loc
+both None other = None
+both (Some loc) other = other
+
+abbrev pub name_place : Option Loc → Option Identifier → Option Loc
+name_place loc None = loc
+name_place loc (Some name) = both loc name.loc
+
+abbrev pub function_place : Option Loc → Option Identifier → Option Loc → Option Loc
+function_place loc name body = both (name_place loc name) body
+
+-- a function has its numbers before its parameters, and its parameters come before its body; a method has them before its key
+abbrev pub numbered_function : {B T : Type 0} → Marking → Option Loc → (ℕ → Marks → Params → B → T) → (Numbers → Linked Params) → (Numbers → Linked B) → Numbers → Linked T
+numbered_function m loc f params body k = counting m construct_kind.Function loc (λ c k. two (f k.code c) (params (after_code k)) body) k
+
+-- the statement that a label stands before begins where the labelled one does: its mark comes before the label
+abbrev pub labelled : Option Loc → Identifier → Stmt → Stmt
+labelled loc name (EnteredStmt mark x) = EnteredStmt mark (labelled loc name x)
+labelled loc name x = Labelled loc name x
+
+-- ---- the forms
+
+abbrev mutual
+  -- an expression, where it is said whether it is an operand of a chain of logical operators
+  pub link_expr : Marking → Bool → Expr → Numbers → Linked Expr
+  link_expr m chained (IdentifierReference loc text) k = kept (IdentifierReference loc text) k
+  link_expr m chained (This loc) k = kept (This loc) k
+  link_expr m chained (NullLiteral loc) k = kept (NullLiteral loc) k
+  link_expr m chained (BooleanLiteral loc b) k = kept (BooleanLiteral loc b) k
+  link_expr m chained (NumericLiteral loc text) k = kept (NumericLiteral loc text) k
+  link_expr m chained (StringLiteral loc spelled) k = kept (StringLiteral loc spelled) k
+  link_expr m chained (ArrayLiteral loc es) k = made (ArrayLiteral loc) (link_exprs m es k)
+  link_expr m chained (ObjectLiteral loc properties) k = made (ObjectLiteral loc) (link_properties m properties k)
+  link_expr m chained (FunctionExpression loc name function) k = made (FunctionExpression loc name) (link_function m loc name function k)
+  link_expr m chained (ArrowFunction loc number params body) k =
+      numbered_function m (function_place loc None (concise_place body)) (λ code c ps b. ArrowFunction loc code ps (enter_concise_body c b))
+      (link_params m params) (link_concise_body m body) k
+  link_expr m chained (RegularExpressionLiteral loc text flags) k = kept (RegularExpressionLiteral loc text flags) k
+  link_expr m chained (TemplateLiteral loc spelled parts) k = made (TemplateLiteral loc spelled) (link_template_parts m parts k)
+  link_expr m chained (Parenthesized loc e) k = made (Parenthesized loc) (link_expr m chained e k)
+  link_expr m chained (NamedMember loc e text) k = made (λ e'. NamedMember loc e' text) (link_expr m false e k)
+  link_expr m chained (ComputedMember loc e f) k = two (ComputedMember loc) (link_expr m false e k) (link_expr m false f)
+  link_expr m chained (New loc e es) k = two (New loc) (link_expr m false e k) (link_exprs m es)
+  link_expr m chained (Call loc e es) k = two (Call loc) (link_expr m false e k) (link_exprs m es)
+  link_expr m chained (PostfixUpdate loc operator e) k = made (PostfixUpdate loc operator) (link_expr m false e k)
+  link_expr m chained (PrefixUpdate loc operator e) k = made (PrefixUpdate loc operator) (link_expr m false e k)
+  link_expr m chained (Unary loc operator e) k = made (Unary loc operator) (link_expr m false e k)
+  link_expr m chained (Binary loc operator e f) k = two (Binary loc operator) (link_expr m false e k) (link_expr m false f)
+  link_expr m true (Logical loc operator e f) k = two (Logical loc operator) (link_expr m true e k) (link_expr m true f)
+  link_expr m false (Logical loc operator e f) k = branched m loc
+      (λ b k. made (enter_leaves b 0) (two (Logical loc operator) (link_expr m true e k) (link_expr m true f))) k
+  link_expr m chained (Conditional loc e f g) k = branched m loc
+      (λ b k. three (λ e' f' g'. Conditional loc e' (enter_expr b 0 f') (enter_expr b 1 g'))
+      (link_expr m false e k) (link_expr m false f) (link_expr m false g)) k
+  link_expr m chained (Assignment loc operator e f) k = two (Assignment loc operator) (link_expr m false e k) (link_expr m false f)
+  link_expr m chained (Comma loc e f) k = two (Comma loc) (link_expr m false e k) (link_expr m false f)
+  link_expr m chained (Entered mark e) k = link_expr m chained e k
+
+  pub link_stmt : Marking → Stmt → Numbers → Linked Stmt
+  link_stmt m (Directive loc spelled) k = kept (Directive loc spelled) k
+  link_stmt m (Block loc xs) k = made (Block loc) (link_stmts m xs k)
+  link_stmt m (VariableDeclaration loc kind declarators) k = made (VariableDeclaration loc kind) (link_declarators m declarators k)
+  link_stmt m (Empty loc) k = kept (Empty loc) k
+  link_stmt m (Expression loc e) k = counted_stmt m loc (λ k. made (Expression loc) (link_expr m false e k)) k
+  link_stmt m (If loc e x y) k = counted_stmt m loc (λ k. branched m loc
+      (λ b k. three (λ e' x' y'. If loc e' (enter_stmt b 0 x') (enter_arm b 1 y'))
+      (link_expr m false e k) (link_stmt m x) (link_stmt_if m y)) k) k
+  link_stmt m (DoWhile loc x e) k = counted_stmt m loc (λ k. two (DoWhile loc) (link_stmt m x k) (link_expr m false e)) k
+  link_stmt m (While loc e x) k = counted_stmt m loc (λ k. two (While loc) (link_expr m false e k) (link_stmt m x)) k
+  link_stmt m (For loc init e f x) k = counted_stmt m loc (λ k. four (For loc) (link_for_init m init k) (link_expr_if m e) (link_expr_if m f) (link_stmt m x)) k
+  link_stmt m (ForIn loc target e x) k = counted_stmt m loc (λ k. three (ForIn loc) (link_for_target m target k) (link_expr m false e) (link_stmt m x)) k
+  link_stmt m (ForOf loc target e x) k = counted_stmt m loc (λ k. three (ForOf loc) (link_for_target m target k) (link_expr m false e) (link_stmt m x)) k
+  link_stmt m (Continue loc name) k = counted_stmt m loc (λ k. kept (Continue loc name) k) k
+  link_stmt m (Break loc name) k = counted_stmt m loc (λ k. kept (Break loc name) k) k
+  link_stmt m (Return loc e) k = counted_stmt m loc (λ k. made (Return loc) (link_expr_if m e k)) k
+  link_stmt m (Switch loc e cases) k = counted_stmt m loc (λ k. branched m loc
+      (λ b k. two (Switch loc) (link_expr m false e k) (link_cases m b 0 cases)) k) k
+  link_stmt m (Labelled loc name x) k = counted_stmt m loc (λ k. made (labelled loc name) (link_stmt m x k)) k
+  link_stmt m (Throw loc e) k = counted_stmt m loc (λ k. made (Throw loc) (link_expr m false e k)) k
+  link_stmt m (TryCatch loc xs catch) k = counted_stmt m loc (λ k. two (TryCatch loc) (link_stmts m xs k) (link_catch m catch)) k
+  link_stmt m (TryFinally loc xs ys) k = counted_stmt m loc (λ k. two (TryFinally loc) (link_stmts m xs k) (link_stmts m ys)) k
+  link_stmt m (TryCatchFinally loc xs catch ys) k = counted_stmt m loc (λ k. three (TryCatchFinally loc) (link_stmts m xs k) (link_catch m catch) (link_stmts m ys)) k
+  link_stmt m (Debugger loc) k = counted_stmt m loc (λ k. kept (Debugger loc) k) k
+  link_stmt m (FunctionDeclaration loc name function) k = made (FunctionDeclaration loc name) (link_function m loc (Some name) function k)
+  link_stmt m (EnteredStmt mark x) k = link_stmt m x k
+
+  pub link_property : Marking → Property → Numbers → Linked Property
+  link_property m (Shorthand loc text) k = kept (Shorthand loc text) k
+  link_property m (KeyValue loc key e) k = two (KeyValue loc) (link_property_key m key k) (link_expr m false e)
+  link_property m (Method loc key (MakeFunction number params body)) k = counting m construct_kind.Function (function_place loc None (braced_place body))
+      (λ c k. three (λ key' ps b. Method loc key' (MakeFunction k.code ps (enter_body c b)))
+      (link_property_key m key (after_code k)) (link_params m params) (link_function_body m body)) k
+
+  pub link_property_key : Marking → PropertyKey → Numbers → Linked PropertyKey
+  link_property_key m (NameKey text) k = kept (NameKey text) k
+  link_property_key m (StringKey spelled) k = kept (StringKey spelled) k
+  link_property_key m (NumberKey text) k = kept (NumberKey text) k
+  link_property_key m (ComputedKey e) k = made ComputedKey (link_expr m false e k)
+
+  pub link_concise_body : Marking → ConciseBody → Numbers → Linked ConciseBody
+  link_concise_body m (ExpressionBody e) k = made ExpressionBody (counted_expr m (bare_place e) (link_expr m false e) k)
+  link_concise_body m (BlockBody body) k = made BlockBody (link_function_body m body k)
+
+  pub link_for_init : Marking → ForInit → Numbers → Linked ForInit
+  link_for_init m NoInit k = kept NoInit k
+  link_for_init m (InitDeclaration kind declarators) k = made (InitDeclaration kind) (link_declarators m declarators k)
+  link_for_init m (InitExpression e) k = made InitExpression (link_expr m false e k)
+
+  pub link_for_target : Marking → ForTarget → Numbers → Linked ForTarget
+  link_for_target m (TargetDeclaration kind pattern) k = kept (TargetDeclaration kind pattern) k
+  link_for_target m (TargetExpression e) k = made TargetExpression (link_expr m false e k)
+
+  pub link_template_part : Marking → TemplatePart → Numbers → Linked TemplatePart
+  link_template_part m (MakeTemplatePart e spelled) k = made (λ e'. MakeTemplatePart e' spelled) (link_expr m false e k)
+
+  pub link_function : Marking → Option Loc → Option Identifier → Function → Numbers → Linked Function
+  link_function m loc name (MakeFunction number params body) k =
+      numbered_function m (function_place loc name (braced_place body)) (λ code c ps b. MakeFunction code ps (enter_body c b))
+      (link_params m params) (link_function_body m body) k
+
+  pub link_function_body : Marking → FunctionBody → Numbers → Linked FunctionBody
+  link_function_body m (MakeFunctionBody loc xs) k = made (MakeFunctionBody loc) (link_stmts m xs k)
+  link_function_body m (EnteredBody mark body) k = link_function_body m body k
+
+  pub link_param : Marking → Param → Numbers → Linked Param
+  link_param m (MakeParam loc pattern none_expr) k = kept (MakeParam loc pattern none_expr) k
+  link_param m (MakeParam loc pattern (some_expr e)) k = branched m loc
+      (λ b k. made (λ e'. MakeParam loc pattern (some_expr (enter_expr b 0 e'))) (link_expr m false e k)) k
+
+  pub link_declarator : Marking → Declarator → Numbers → Linked Declarator
+  link_declarator m (MakeDeclarator loc pattern none_expr) k = kept (MakeDeclarator loc pattern none_expr) k
+  link_declarator m (MakeDeclarator loc pattern (some_expr e)) k =
+      made (λ e'. MakeDeclarator loc pattern (some_expr e')) (counted_expr m (bare_place e) (link_expr m false e) k)
+
+  pub link_case : Marking → Case → Numbers → Linked Case
+  link_case m (MakeCase loc e xs) k = two (MakeCase loc) (link_expr_if m e k) (link_stmts m xs)
+  link_case m (EnteredCase mark x) k = link_case m x k
+
+  pub link_catch : Marking → Catch → Numbers → Linked Catch
+  link_catch m (MakeCatch pattern xs) k = made (MakeCatch pattern) (link_stmts m xs k)
+
+  pub link_expr_if : Marking → MaybeExpr → Numbers → Linked MaybeExpr
+  link_expr_if m none_expr k = kept none_expr k
+  link_expr_if m (some_expr e) k = made some_expr (link_expr m false e k)
+
+  pub link_stmt_if : Marking → MaybeStmt → Numbers → Linked MaybeStmt
+  link_stmt_if m none_stmt k = kept none_stmt k
+  link_stmt_if m (some_stmt x) k = made some_stmt (link_stmt m x k)
+  link_stmt_if m (entered_none mark) k = kept none_stmt k
+
+  pub link_exprs : Marking → Exprs → Numbers → Linked Exprs
+  link_exprs m no_expr k = kept no_expr k
+  link_exprs m (more_expr x xs) k = two more_expr (link_expr m false x k) (link_exprs m xs)
+
+  pub link_template_parts : Marking → TemplateParts → Numbers → Linked TemplateParts
+  link_template_parts m no_template_part k = kept no_template_part k
+  link_template_parts m (more_template_part x xs) k = two more_template_part (link_template_part m x k) (link_template_parts m xs)
+
+  pub link_properties : Marking → Properties → Numbers → Linked Properties
+  link_properties m no_property k = kept no_property k
+  link_properties m (more_property x xs) k = two more_property (link_property m x k) (link_properties m xs)
+
+  pub link_params : Marking → Params → Numbers → Linked Params
+  link_params m no_param k = kept no_param k
+  link_params m (more_param x xs) k = two more_param (link_param m x k) (link_params m xs)
+
+  pub link_stmts : Marking → Stmts → Numbers → Linked Stmts
+  link_stmts m no_stmt k = kept no_stmt k
+  link_stmts m (more_stmt x xs) k = two more_stmt (link_stmt m x k) (link_stmts m xs)
+
+  pub link_declarators : Marking → Declarators → Numbers → Linked Declarators
+  link_declarators m no_declarator k = kept no_declarator k
+  link_declarators m (more_declarator x xs) k = two more_declarator (link_declarator m x k) (link_declarators m xs)
+
+  pub link_cases : Marking → Marks → ℕ → Cases → Numbers → Linked Cases
+  link_cases m b path no_case k = kept no_case k
+  link_cases m b path (more_case x xs) k = two (λ x' xs'. more_case (enter_case b path x') xs') (link_case m x k) (link_cases m b (suc path) xs)
+
+abbrev pub link_file : Marking → File → Numbers → Linked File
+link_file m (MakeFile body comments) k = made (λ body'. MakeFile body' comments) (link_stmts m body k)

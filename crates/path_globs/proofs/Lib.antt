@@ -1,0 +1,2 @@
+mod NormalFormLemmas
+mod SpecifierLemmas

@@ -1,0 +1,3 @@
+pub mod NormalForm
+pub mod Specifier
+pub mod Rows

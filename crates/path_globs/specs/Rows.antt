@@ -1,0 +1,48 @@
+-- Paths and specifiers, and what they come to.
+use Rattle.std.specs.Prelude.{◌≡◌, ℕ, List, [], ◌∷◌, map, Option, Some, None, codes}
+use Rattle.path_globs.specs.NormalForm.{normal}
+use Rattle.path_globs.specs.Specifier.{resolve}
+
+-- a function takes what stands left in each row to what stands right
+abbrev pub Agrees : {A B : Type 0} → (A → B) → List (A × B) → Type 0
+Agrees f rows = map (λ row. f row.0) rows ≡ map (λ row. row.1) rows
+
+abbrev normal_rows : List (List ℕ × Option (List ℕ))
+normal_rows =
+    (codes "a.js", Some (codes "a.js")) ∷
+    (codes "./a//b/./c.js", Some (codes "a/b/c.js")) ∷
+    (codes "a/../b.js", Some (codes "b.js")) ∷
+    (codes "a/b/../../c.js", Some (codes "c.js")) ∷
+    (codes "/a/../b.js", Some (codes "/b.js")) ∷
+    (codes "a/b/", Some (codes "a/b")) ∷
+    (codes "...", Some (codes "...")) ∷
+    (codes "..", None) ∷
+    (codes "a/../..", None) ∷
+    (codes "/..", None) ∷
+    (codes "/", Some (codes "/")) ∷
+    ([], Some []) ∷
+    []
+
+abbrev pub NormalForms : Type 0
+NormalForms = Agrees normal normal_rows
+
+-- the path of the file that asks, and what it asks for
+abbrev resolve_rows : List ((List ℕ × List ℕ) × Option (List ℕ))
+resolve_rows =
+    ((codes "a/b.js", codes "../c"), Some (codes "c.js")) ∷
+    ((codes "b.js", codes "../c"), None) ∷
+    ((codes "b.js", codes "fs"), None) ∷
+    ((codes "b.js", codes "./c.js"), Some (codes "c.js")) ∷
+    ((codes "b.js", codes "./c"), Some (codes "c.js")) ∷
+    ((codes "a/b.js", codes "./c/d"), Some (codes "a/c/d.js")) ∷
+    ((codes "/a/b.js", codes "../c"), Some (codes "/c.js")) ∷
+    ((codes "/b.js", codes "../c"), None) ∷
+    ((codes "a/b/c.js", codes "../../d"), Some (codes "d.js")) ∷
+    ((codes "a/b.js", codes "/c.js"), None) ∷
+    ((codes "a/b.js", codes "c.js"), None) ∷
+    ((codes "a/b.js", codes ".c"), None) ∷
+    ((codes "a/b.js", []), None) ∷
+    []
+
+abbrev pub Resolved : Type 0
+Resolved = Agrees (λ row. resolve row.0 row.1) resolve_rows

@@ -1,0 +1,7 @@
+ghost use Rattle.path_globs.specs.Rows.{NormalForms, Resolved};
+
+/// Does nothing. Its contract is a table of paths with what they come to.
+pub fn worked_paths()
+    ensures normal_forms { NormalForms }
+    ensures resolved { Resolved }
+{}
