@@ -3,3 +3,5 @@ pub mod ObjectLemmas
 pub mod Older
 pub mod Outcomes
 pub mod Chains
+pub mod WriteLemmas
+pub mod KeysLemmas

@@ -2,7 +2,12 @@
 use Rattle.std.specs.Prelude.{ℕ, suc, ◌≤◌, List, map, Option, None, Some, option_map, slice_index_or}
 use Rattle.js_value.specs.declared.value.Value.{Value}
 use Rattle.js_value.specs.State as state
+use Rattle.js_value.specs.Objects as objects
 use Rattle.js_value.specs.Objects.{no_object}
+use Rattle.js_heap.specs.declared.delete.Delete.{Delete}
+use Rattle.js_heap.specs.declared.delete.Delete.TheVariants as delete
+use Rattle.js_heap.specs.declared.write.Set.{Set}
+use Rattle.js_heap.specs.declared.write.Set.TheVariants as set
 use Rattle.js_heap.specs.declared.object.ObjectKind.{ObjectKind}
 use Rattle.js_heap.specs.declared.object.ObjectKind.TheVariants.{Plain, Array, Error, RegExp, BuiltIn, Written}
 use Rattle.js_heap.specs.declared.object.Flags.{Flags}
@@ -37,6 +42,17 @@ plain_object object = record {
   elements = object.elements.items.items;
   properties = map plain_property object.properties.items;
 }
+
+abbrev pub plain_set : Set → objects.Set
+plain_set set.Done = objects.Done
+plain_set set.ReadOnly = objects.IsReadOnly
+plain_set set.Sparse = objects.IsSparse
+plain_set set.BadLength = objects.IsBadLength
+
+abbrev pub plain_delete : Delete → objects.Delete
+plain_delete delete.Done = objects.Deleted
+plain_delete delete.Frozen = objects.IsFrozen
+plain_delete delete.Sparse = objects.LeavesHole
 
 -- as many as there can be in a chain that begins with this one, where each is older than the one before
 abbrev pub reach_of : Option ℕ → ℕ

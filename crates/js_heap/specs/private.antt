@@ -1,3 +1,4 @@
 -- What the contracts of private functions name: no reader has to believe it.
 pub mod Environment
 pub mod Object
+pub mod Write

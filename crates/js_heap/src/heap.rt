@@ -5,10 +5,10 @@ ghost use Rattle.js_heap.specs.Environment.{plain_environment, OutersAreOlder};
 use crate::elements::Elements;
 use crate::environment::{Binding, Environment};
 use crate::object::{ObjectRecord, Property};
-use crate::{Assign, Cell, Env, Flags, ObjectKind};
-use items::Memory;
+use crate::{Assign, Cell, Delete, Env, Flags, ObjectKind, Set, keys, texts};
+use items::{Items, Memory};
 use js_tree::Name;
-use js_value::{Object, Str, Value};
+use js_value::{Key, Object, Str, Value};
 use std::alloc::Global;
 
 /// The objects and environments of a running program, each numbered in the order in which they
@@ -36,13 +36,15 @@ impl Drop for Heap {
 }
 
 impl Heap {
-    ghost use Rattle.std.specs.Prelude.{◌≡◌, ◌↔◌, IsTrue, false, IfOk, IfSome, OnOk, OnErr, None, option_map, length};
+    ghost use Rattle.std.specs.Prelude.{◌≡◌, ◌↔◌, IsTrue, [], false, IfOk, IfSome, OnOk, OnErr, None, option_map, length};
     ghost use Rattle.std.specs.Option.{ForSome, option_copied};
-    ghost use Rattle.js_value.specs.Objects.{object_at, kind_of, next_object, new_object, own, get, define, freeze};
+    ghost use Rattle.js_value.specs.Objects.{object_at, kind_of, next_object, new_object, new_array, own, found, get, keys, define, freeze, elements_of, with_elements, append, cut, set, set_answer, delete, delete_answer};
+    ghost use Rattle.js_value.specs.Texts.{own_of_text, keys_of_text, get_of_text, delete_of_text};
     ghost use Rattle.js_value.specs.Environments.{environment_at, next_environment, new_environment, declare, lookup, binding_at, value_of, init, assign, assign_answer};
-    ghost use Rattle.js_heap.specs.Object.{plain_kind, property_with};
+    ghost use Rattle.js_heap.specs.Object.{plain_kind, plain_set, plain_delete, property_with, reach_of};
     ghost use Rattle.js_heap.specs.Environment.{plain_binding, plain_cell, plain_assign};
     ghost use Rattle.js_value.specs.Realm.{empty_heap};
+    ghost use Rattle.js_heap.specs.private.Write.{bars, seen_of, chain_found};
     ghost use Rattle.js_heap.specs.Heap.{heap_of, HoldsObject, HoldsEnvironment, HoldsCell, is_of_array};
 
     /// A heap of nothing, which takes no memory. What is made later is kept on the allocator.
@@ -76,6 +78,79 @@ impl Heap {
         Ok(made)
     }
 
+    /// Makes an array of no elements (10.4.2.2). On want of memory nothing changes.
+    pub fn array(&mut self, prototype: Object) -> Result<Object, Memory>
+        requires { HoldsObject (heap_of self.old) prototype.index }
+        ensures ok { OnOk result (heap_of self.new
+            ≡ new_array prototype.index [] (heap_of self.old)) }
+        ensures object { IfOk result (λ made. made.index ≡ next_object (heap_of self.old)) }
+        ensures err { OnErr result (heap_of self.new ≡ heap_of self.old) }
+    {
+        let elements = Items::new(self.alloc);
+        self.array_of(prototype, elements)
+    }
+
+    /// Makes an array of these elements. On want of memory nothing changes.
+    pub fn array_of(&mut self, prototype: Object, elements: Items<Value>) -> Result<Object, Memory>
+        requires { HoldsObject (heap_of self.old) prototype.index }
+        ensures ok { OnOk result (heap_of self.new
+            ≡ new_array prototype.index elements (heap_of self.old)) }
+        ensures object { IfOk result (λ made. made.index ≡ next_object (heap_of self.old)) }
+        ensures err { OnErr result (heap_of self.new ≡ heap_of self.old) }
+    {
+        let made = Object::at(self.objects.len() as u64);
+        let elements = Elements::new(elements)?;
+        self.objects.push(ObjectRecord {
+            kind: ObjectKind::Array,
+            prototype: Some(prototype),
+            frozen: false,
+            elements,
+            properties: Vec::new(self.alloc),
+        })?;
+        Ok(made)
+    }
+
+    /// The elements of an array, lent; another object has none.
+    pub fn elements(&self, object: Object) -> &[Value]
+        requires { HoldsObject (heap_of self.now) object.index }
+        ensures { result.now ≡ elements_of (heap_of self.now) object.index }
+    {
+        self.record(object).elements.as_slice()
+    }
+
+    /// Puts more elements after those of an array. On want of memory nothing changes.
+    pub fn append(&mut self, object: Object, more: Items<Value>) -> Result<(), Memory>
+        requires { HoldsObject (heap_of self.old) object.index }
+        ensures ok { OnOk result (heap_of self.new
+            ≡ append object.index more (heap_of self.old)) }
+        ensures err { OnErr result (heap_of self.new ≡ heap_of self.old) }
+    {
+        let record = &mut self.objects[object.index() as usize];
+        record.append(more)
+    }
+
+    /// Leaves the first so many elements of an array, and no others. It takes no memory.
+    pub fn cut(&mut self, object: Object, size: usize)
+        requires { HoldsObject (heap_of self.old) object.index }
+        ensures { heap_of self.new ≡ cut object.index size (heap_of self.old) }
+    {
+        let record = &mut self.objects[object.index() as usize];
+        record.cut(size);
+    }
+
+    /// Puts elements in the place of those of an array. On want of memory nothing changes.
+    pub fn replace(&mut self, object: Object, elements: Items<Value>) -> Result<(), Memory>
+        requires { HoldsObject (heap_of self.old) object.index }
+        ensures ok { OnOk result (heap_of self.new
+            ≡ with_elements object.index elements (heap_of self.old)) }
+        ensures err { OnErr result (heap_of self.new ≡ heap_of self.old) }
+    {
+        let elements = Elements::new(elements)?;
+        let record = &mut self.objects[object.index() as usize];
+        record.elements = elements;
+        Ok(())
+    }
+
     /// Defines the object's own property of this name, and its flags (10.1.6). On want of memory
     /// nothing changes. It is not for an array's elements and length.
     pub fn define(
@@ -104,6 +179,40 @@ impl Heap {
     {
         let record = &mut self.objects[object.index() as usize];
         record.frozen = true;
+    }
+
+    /// Writes the object's property of this name (10.1.9, and 10.4.2.1 of an array). On want of
+    /// memory nothing changes. A length is a number: what else is given is no length (`BadLength`).
+    pub fn set(&mut self, object: Object, name: &Str, value: Value) -> Result<Set, Memory>
+        requires { HoldsObject (heap_of self.old) object.index }
+        ensures answer { IfOk result (λ answer. plain_set answer
+            ≡ set_answer (heap_of self.old) object.index name.now value) }
+        ensures ok { OnOk result (heap_of self.new
+            ≡ set object.index name.now value (heap_of self.old)) }
+        ensures err { OnErr result (heap_of self.new ≡ heap_of self.old) }
+    {
+        let barred = self.bars(object, name);
+        let record = &mut self.objects[object.index() as usize];
+        record.set(name, value, barred)
+    }
+
+    /// Deletes the object's own property of this name (10.1.10). It takes no memory.
+    pub fn delete(&mut self, object: Object, name: &Str) -> Delete
+        requires { HoldsObject (heap_of self.old) object.index }
+        ensures answer { plain_delete result
+            ≡ delete_answer (heap_of self.old) object.index name.now }
+        ensures after { heap_of self.new ≡ delete object.index name.now (heap_of self.old) }
+    {
+        let record = &mut self.objects[object.index() as usize];
+        record.delete(name)
+    }
+
+    /// The object's own keys (10.1.11), each with whether it is enumerable, or want of memory.
+    pub fn keys(&self, object: Object) -> Result<Items<Key>, Memory>
+        requires { HoldsObject (heap_of self.now) object.index }
+        ensures { IfOk result (λ found. found ≡ keys (heap_of self.now) object.index) }
+    {
+        keys::keys_of(self.alloc, self.record(object))
     }
 
     /// The object's own property of this name (10.1.5): its value, lent, and its flags.
@@ -147,15 +256,48 @@ impl Heap {
         requires { HoldsObject (heap_of self.now) object.index }
         ensures { option_copied result ≡ get (heap_of self.now) object.index name.now }
     {
-        let mut chain = Some(object);
-        while let Some(at) = chain {
-            let record = self.record(at);
-            if let Some((value, _)) = record.own(name) {
-                return Some(value);
-            }
-            chain = record.prototype;
+        let (value, _) = self.found(Some(object), name)?;
+        Some(value)
+    }
+
+    /// The property of this name that a text has where it is looked into, its own, or else one of
+    /// what texts inherit from (6.2.5.5). Want of memory is for a text of one unit.
+    pub fn get_of_text(
+        &self,
+        prototype: Object,
+        text: &Str,
+        name: &Str,
+    ) -> Result<Option<Value>, Memory>
+        requires { HoldsObject (heap_of self.now) prototype.index }
+        ensures { IfOk result (λ value. value
+            ≡ get_of_text (heap_of self.now) prototype.index text.now name.now) }
+    {
+        if let Some((value, _)) = self.own_of_text(text, name)? {
+            return Ok(Some(value));
         }
-        None
+        match self.get(prototype, name) {
+            Some(value) => Ok(Some(value.copy()?)),
+            None => Ok(None),
+        }
+    }
+
+    /// The property of this name that a text has of its own where it is looked into (10.4.3.5):
+    /// a unit or its length.
+    pub fn own_of_text(&self, text: &Str, name: &Str) -> Result<Option<(Value, Flags)>, Memory>
+        ensures { IfOk result (λ own. option_map (λ found. property_with name.now found.0 found.1) own
+            ≡ own_of_text text.now name.now) }
+    {
+        texts::own_of_text(self.alloc, text, name)
+    }
+
+    /// The own keys of a text that is looked into (10.4.3.3), each with whether it is enumerable, or
+    /// want of memory.
+    pub fn keys_of_text(&self, text: &Str) -> Result<Items<Key>, Memory>
+        ensures { IfOk result (λ found. found ≡ keys_of_text text.now) }
+    {
+        let mut keys = Items::new(self.alloc);
+        keys::put_dense(self.alloc, &mut keys, text.len())?;
+        Ok(keys)
     }
 
     /// Makes an environment of no names inside another one, or inside none (9.1.2.2). On want of
@@ -269,6 +411,36 @@ impl Heap {
         ensures { IsTrue result ↔ HoldsEnvironment (heap_of self.now) env.index }
     {
         env.index() < self.environments.len() as u64
+    }
+
+    /// Whether the object inherits a property of this name that may not be written.
+    fn bars(&self, object: Object, name: &Str) -> bool
+        requires { HoldsObject (heap_of self.now) object.index }
+        ensures { result ≡ bars (found object.index (heap_of self.now)
+            (object_at (heap_of self.now) object.index).prototype name.now) }
+    {
+        match self.found(self.proto(object), name) {
+            Some((_, writable)) => !writable,
+            None => false,
+        }
+    }
+
+    /// The first property of this name along a chain of prototypes: its value, lent, and whether it
+    /// may be written.
+    fn found(&self, first: Option<Object>, name: &Str) -> Option<(&Value, bool)>
+        requires { ForSome first (λ o. HoldsObject (heap_of self.now) o.index) }
+        ensures { option_map (λ f. (f.0.now, f.1)) result ≡ option_map seen_of
+            (chain_found (heap_of self.now) (option_map (λ o. o.index) first) name.now) }
+    {
+        let mut chain = first;
+        while let Some(at) = chain {
+            let record = self.record(at);
+            if let Some((value, flags)) = record.own(name) {
+                return Some((value, record.may_write(flags)));
+            }
+            chain = record.prototype;
+        }
+        None
     }
 
     /// The object, lent.

@@ -2,11 +2,18 @@
 //! change them.
 #![tactic(auto)]
 
+mod delete;
 mod elements;
 mod environment;
 mod heap;
+mod keys;
 mod object;
+mod texts;
+mod write;
 
+pub use delete::Delete;
 pub use environment::{Assign, Cell, Env};
 pub use heap::Heap;
 pub use object::{Flags, ObjectKind};
+pub use texts::delete_of_text;
+pub use write::Set;

@@ -2,7 +2,7 @@ ghost use Rattle.std.specs.Prelude.{◌≡◌, OnOk, OnErr, option_map};
 
 use crate::Env;
 use crate::elements::Elements;
-use items::Memory;
+use items::{Items, Memory};
 use js_value::{Object, Str, Value, index_of};
 
 /// What an object is (ECMA-262, 10.1 to 10.4).
@@ -33,7 +33,7 @@ pub struct Flags {
 }
 
 /// The flags of an element.
-const ELEMENT: Flags = Flags {
+pub(crate) const ELEMENT: Flags = Flags {
     enumerable: true,
     writable: true,
 };
@@ -45,7 +45,7 @@ const LENGTH_FLAGS: Flags = Flags {
 };
 
 /// The key of an array's length.
-const LENGTH: [u16; 6] = [108, 101, 110, 103, 116, 104];
+pub(crate) const LENGTH: [u16; 6] = [108, 101, 110, 103, 116, 104];
 
 /// A data property (6.1.7.1).
 #[derive(Debug, Drop)]
@@ -53,6 +53,17 @@ pub struct Property {
     pub key: Str,
     pub value: Value,
     pub flags: Flags,
+}
+
+impl Property {
+    ghost use Rattle.std.specs.Str.{bytes_eq};
+
+    /// Whether this is its key.
+    pub fn has(&self, key: &Str) -> bool
+        ensures { result ≡ bytes_eq self.now.key key.now }
+    {
+        self.key.as_slice() == key.as_slice()
+    }
 }
 
 /// An object, with the elements that it has where it is an array, and its other own properties in the
@@ -67,19 +78,19 @@ pub struct ObjectRecord {
 }
 
 impl ObjectRecord {
-    ghost use Rattle.std.specs.Prelude.{position};
+    ghost use Rattle.std.specs.Prelude.{position, not, ◌&&◌};
     ghost use Rattle.std.specs.Str.{bytes_eq};
     ghost use Rattle.js_value.specs.Objects.{property_of, own_of, own_of_array};
     ghost use Rattle.js_heap.specs.Object.{plain_property, plain_object, property_with};
-    ghost use Rattle.js_heap.specs.private.Object.{with_defined};
+    ghost use Rattle.js_heap.specs.private.Object.{with_defined, with_more, with_cut};
 
     /// The place of its own property of this key.
-    fn place_of(&self, key: &Str) -> Option<usize>
+    pub(crate) fn place_of(&self, key: &Str) -> Option<usize>
         ensures { result ≡ position (λ p. bytes_eq p.key key.now) self.now.properties.items }
     {
         self.properties
             .iter()
-            .position(|property| property.key.as_slice() == key.as_slice())
+            .position(|property| property.has(key))
     }
 
     /// Its own property of this key that is none of an array.
@@ -90,6 +101,13 @@ impl ObjectRecord {
         let place = self.place_of(key)?;
         let property = &self.properties[place];
         Some((&property.value, property.flags))
+    }
+
+    /// Whether a property with these flags may be written: in a frozen object none may.
+    pub fn may_write(&self, flags: Flags) -> bool
+        ensures { result ≡ (flags.writable && not self.now.frozen) }
+    {
+        flags.writable && !self.frozen
     }
 
     /// Its own property of this key (10.1.5): its value, lent, and its flags.
@@ -116,6 +134,23 @@ impl ObjectRecord {
             )),
             None => self.property(key),
         }
+    }
+
+    /// Puts more elements after those that it has. On want of memory nothing changes.
+    pub fn append(&mut self, more: Items<Value>) -> Result<(), Memory>
+        ensures ok { OnOk result (plain_object self.new ≡ with_more more (plain_object self.old)) }
+        ensures prototype { self.new.prototype ≡ self.old.prototype }
+        ensures err { OnErr result (plain_object self.new ≡ plain_object self.old) }
+    {
+        self.elements.append(more)
+    }
+
+    /// Leaves the first so many elements, and no others.
+    pub fn cut(&mut self, size: usize)
+        ensures after { plain_object self.new ≡ with_cut size (plain_object self.old) }
+        ensures prototype { self.new.prototype ≡ self.old.prototype }
+    {
+        self.elements.cut(size);
     }
 
     /// Puts the property in the place of its own of the same key, or after the others (10.1.6). On

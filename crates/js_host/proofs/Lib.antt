@@ -1,3 +1,1 @@
-pub mod NativeLemmas
-pub mod OpeningLemmas
-pub mod Sizes
+mod NativeLemmas

@@ -1,22 +1,33 @@
-ghost use Rattle.std.specs.Prelude.{◌≡◌, ◌++◌, IfOk, OnOk, OnErr, Ok, codes, option_map, slice_get, map};
+ghost use Rattle.std.specs.Prelude.{◌≡◌, ◌≤◌, IfOk, OnOk, Ok, option_map, slice_get, map};
 ghost use Rattle.js_value.specs.Host as spec;
+ghost use Rattle.js_value.specs.Objects.{next_object};
+ghost use Rattle.js_value.specs.Realm.{built_in_count, text};
+ghost use Rattle.js_value.specs.OnObjects.{value_at};
 ghost use Rattle.js_heap.specs.Heap.{heap_of};
+ghost use Rattle.js_data.specs.Does.{Does};
+ghost use Rattle.js_host.specs.Held.{Held, AllHeld};
 ghost use Rattle.js_host.specs.Native.{plain_native};
-ghost use Rattle.js_host.specs.private.Does.{Does};
-ghost use Rattle.js_host.specs.private.Opening.{row_seen};
+ghost use Rattle.js_host.specs.private.Deeds.{DeedHeld, row_seen};
 
+use crate::complaints::{error_of, message_of};
+use crate::constructors::of_constructor;
 use crate::native::Native;
-use crate::on_data::of_data;
-use crate::opening::FunctionRow;
-use crate::texts::ascii;
+use crate::on_objects::of_objects;
+use crate::perform::perform;
 use items::{Items, Memory};
+use js_data::of_data;
 use js_heap::Heap;
-use js_value::{BUILT_INS, BuiltIn, Complaint, Datum, Deed, ErrorKind, Halt, Str, Value};
+use js_value::{
+    BUILT_INS, BuiltIn, Complaint, Datum, Deed, FUNCTIONS, Halt, Place, Primitive, Str, Value,
+};
 use std::alloc::{AllocError, Global};
+
+/// A row of the table of functions.
+type FunctionRow = (BuiltIn, Option<Place>, &'static str, u8);
 
 /// What the built-in function of this number answers to `this` and the arguments. A number that no
 /// built-in function has is answered as a value that can't be called. Only want of memory is an
-/// error, and then nothing has changed.
+/// error; then only that no object is gone is said of the heap.
 pub fn call_native(
     alloc: Global,
     heap: &mut Heap,
@@ -25,17 +36,21 @@ pub fn call_native(
     this: &Value,
     arguments: &[Value],
 ) -> Result<Native, Memory>
+    requires realm { built_in_count ≤ next_object (heap_of heap.old) }
+    requires this { Held (heap_of heap.old) this.now }
+    requires arguments { AllHeld (heap_of heap.old) arguments.now }
     ensures answer { IfOk result (λ native. plain_native native
         ≡ spec.native_of id constructing this.now arguments.now (heap_of heap.old)) }
     ensures after { OnOk result (heap_of heap.new
         ≡ spec.native_heap id constructing this.now arguments.now (heap_of heap.old)) }
-    ensures err { OnErr result (heap_of heap.new ≡ heap_of heap.old) }
+    ensures grows { next_object (heap_of heap.old) ≤ next_object (heap_of heap.new) }
 {
     match done_of(alloc, heap, id, constructing, this, arguments) {
         Ok(deed) => perform(alloc, heap, deed),
-        Err(Halt::Throw(complaint)) => {
-            Ok(Native::Throw(error_of(complaint), message_of(alloc, complaint)?))
-        }
+        Err(Halt::Throw(complaint)) => Ok(Native::Throw(
+            error_of(complaint),
+            message_of(alloc, complaint)?,
+        )),
         Err(Halt::Refuse(kind)) => Ok(Native::Refuse(kind)),
         Err(Halt::Memory) => Err(AllocError),
     }
@@ -50,7 +65,11 @@ fn done_of(
     this: &Value,
     arguments: &[Value],
 ) -> Result<Deed, Halt>
-    ensures { Does (spec.done_of (spec.built_in id) constructing this.now arguments.now (heap_of heap.now)) result }
+    requires realm { built_in_count ≤ next_object (heap_of heap.now) }
+    requires this { Held (heap_of heap.now) this.now }
+    requires arguments { AllHeld (heap_of heap.now) arguments.now }
+    ensures does { Does (spec.done_of (spec.built_in id) constructing this.now arguments.now (heap_of heap.now)) result }
+    ensures held { IfOk result (DeedHeld (heap_of heap.now)) }
 {
     match function_of(&BUILT_INS, id) {
         Some(function) => done_by(alloc, heap, function, constructing, this, arguments),
@@ -58,8 +77,19 @@ fn done_of(
     }
 }
 
-/// The function of this number in a table.
+/// The function of this number: one of a table, or `require`.
 fn function_of(table: &[FunctionRow], id: u32) -> Option<BuiltIn>
+    ensures { result ≡ spec.listed_or (option_map (λ row. row.function) (slice_get (map row_seen table.now) id)) id }
+{
+    match row_of(table, id) {
+        Some(function) => Some(function),
+        None if id as usize == FUNCTIONS => Some(BuiltIn::Require),
+        None => None,
+    }
+}
+
+/// The function of this number in a table.
+fn row_of(table: &[FunctionRow], id: u32) -> Option<BuiltIn>
     ensures { result ≡ option_map (λ row. row.function) (slice_get (map row_seen table.now) id) }
 {
     if id as usize >= table.len() {
@@ -77,67 +107,49 @@ fn done_by(
     this: &Value,
     arguments: &[Value],
 ) -> Result<Deed, Halt>
-    ensures { Does (spec.done_by function constructing this.now arguments.now (heap_of heap.now)) result }
+    requires realm { built_in_count ≤ next_object (heap_of heap.now) }
+    requires this { Held (heap_of heap.now) this.now }
+    requires arguments { AllHeld (heap_of heap.now) arguments.now }
+    ensures does { Does (spec.done_by function constructing this.now arguments.now (heap_of heap.now)) result }
+    ensures held { IfOk result (DeedHeld (heap_of heap.now)) }
 {
     match function {
+        BuiltIn::Constructor(function) => of_constructor(alloc, function, constructing, arguments),
         _ if constructing => Err(Halt::Throw(Complaint::NotAConstructor)),
-        BuiltIn::OnData(function) => Ok(deed_of(of_data(alloc, function, this, arguments)?)),
+        BuiltIn::OnData(function) => deed_of(alloc, of_data(alloc, function, this, arguments)?),
+        BuiltIn::OnObjects(function) => of_objects(alloc, heap, function, this, arguments),
+        BuiltIn::Require => require(arguments),
     }
 }
 
 /// What is done for what a function on primitive values gives.
-fn deed_of(datum: Datum) -> Deed
-    ensures { result ≡ spec.deed_of datum }
+fn deed_of(alloc: Global, datum: Datum) -> Result<Deed, Halt>
+    ensures { Does (Ok (spec.deed_of datum)) result }
 {
     match datum {
-        Datum::Line(text) => Deed::Line(text),
+        Datum::One(primitive) => Ok(Deed::Give(Value::Primitive(primitive))),
+        Datum::Line(text) => Ok(Deed::Line(text)),
+        Datum::Texts(texts) => Ok(Deed::MakeArray(values_of(alloc, texts.as_slice())?)),
     }
 }
 
-/// The kind of the error that a complaint is thrown as.
-pub fn error_of(complaint: Complaint) -> ErrorKind
-    ensures { result ≡ spec.error_of complaint }
+/// Texts as values.
+fn values_of(alloc: Global, texts: &[Str]) -> Result<Items<Value>, Memory>
+    ensures { IfOk result (λ values. values ≡ map text texts.now) }
 {
-    match complaint {
-        Complaint::NotDefined | Complaint::NotInitialised => ErrorKind::ReferenceError,
-        Complaint::NotAssignable | Complaint::NotAConstructor | Complaint::NotAFunction => {
-            ErrorKind::TypeError
-        }
+    let mut values = Items::new(alloc);
+    for text in texts {
+        values.push(Value::Primitive(Primitive::Text(text.copy()?)))?;
     }
+    Ok(values)
 }
 
-/// The message of the error that a complaint is thrown as. Only want of memory is an error.
-pub fn message_of(alloc: Global, complaint: Complaint) -> Result<Str, Memory>
-    ensures { IfOk result (λ text. text ≡ spec.message_of complaint) }
+/// `require` of the first argument.
+fn require(arguments: &[Value]) -> Result<Deed, Halt>
+    ensures { Does (spec.require (value_at arguments.now 0)) result }
 {
-    match complaint {
-        Complaint::NotDefined => ascii(alloc, b"not defined"),
-        Complaint::NotInitialised => ascii(alloc, b"not initialised"),
-        Complaint::NotAssignable => ascii(alloc, b"constant"),
-        Complaint::NotAConstructor => ascii(alloc, b"not a constructor"),
-        Complaint::NotAFunction => ascii(alloc, b"not a function"),
+    match arguments {
+        [Value::Primitive(Primitive::Text(text)), ..] => Ok(Deed::Require(text.copy()?)),
+        _ => Err(Halt::Throw(Complaint::NotAText)),
     }
-}
-
-/// Does a deed. Only want of memory is an error, and then nothing has changed.
-fn perform(alloc: Global, heap: &mut Heap, deed: Deed) -> Result<Native, Memory>
-    ensures answer { IfOk result (λ native. plain_native native ≡ spec.given_by deed (heap_of heap.old)) }
-    ensures after { OnOk result (heap_of heap.new ≡ spec.after_deed deed (heap_of heap.old)) }
-    ensures err { OnErr result (heap_of heap.new ≡ heap_of heap.old) }
-{
-    match deed {
-        Deed::Give(value) => Ok(Native::Value(value)),
-        Deed::Line(text) => Ok(Native::Write(line(alloc, &text)?)),
-        Deed::Enter(function, this, arguments) => Ok(Native::Enter(function, this, arguments)),
-        Deed::Require(text) => Ok(Native::Require(text)),
-    }
-}
-
-/// A text and LF, in UTF-8.
-fn line(alloc: Global, text: &Str) -> Result<Items<u8>, Memory>
-    ensures { IfOk result (λ bytes. bytes ≡ spec.utf8_of text.now ++ codes "\n") }
-{
-    let mut line = String::from_utf16_lossy(alloc, text.as_slice())?;
-    line.push('\n')?;
-    Ok(Items::from_vec(line.into_bytes()))
 }

@@ -1,21 +1,24 @@
-//! The host of the small language: what stands when a program begins, and what the built-in functions answer.
+//! The host of the small language: what the built-in functions answer, and what they do to the heap.
 #![tactic(auto)]
 
+mod arrays;
 mod call;
+mod complaints;
+mod constructors;
+mod copying;
+mod functions;
 mod native;
-mod on_data;
-mod opening;
-mod places;
+mod objects;
+mod on_objects;
+mod perform;
+mod prelude;
 mod texts;
-mod view;
+mod values;
 
-pub use call::{call_native, error_of, message_of};
-pub use js_value::ErrorKind;
+pub use call::call_native;
+pub use complaints::{error_of, message_of};
+pub use js_realm::{error_prototype, global_environment, object_at, realm};
+pub use js_value::{ErrorKind, ascii};
 pub use native::Native;
-pub use opening::realm;
-pub use places::{error_prototype, global_environment, object_at};
-pub use texts::{ascii, utf8_of};
-
-/// The source that is run before a program's own: the built-in functions that are written in the
-/// language. So far there are none.
-pub const PRELUDE: &str = "";
+pub use prelude::PRELUDE;
+pub use texts::utf8_of;

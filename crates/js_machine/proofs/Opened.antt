@@ -9,7 +9,7 @@ use Rattle.js_value.specs.declared.error_kind.ErrorKind.TheVariants.{Error, Type
 use Rattle.js_value.specs.declared.built_in.Place.TheVariants.{ObjectPrototype}
 use Rattle.js_value.specs.Realm.{opening, object, global_environment, number_of, error_prototype, built_in_count}
 use Rattle.js_value.specs.Realm as realm
-use Rattle.js_value.proofs.StoreWorked as worked
+use Rattle.js_value.proofs.RealmWorked as worked
 use Rattle.js_heap.specs.Heap.{HoldsObject, HoldsEnvironment}
 use Rattle.js_meaning.specs.Files.{once, variable, variables, declare_all, file_objects, file_environment}
 use Rattle.js_machine.specs.private.Errors.{HoldsErrors}
@@ -21,10 +21,10 @@ pub the_same : {A : Type 0} (P : A → Type 0) {x : A} → P x → (y : A) → S
 the_same P {x} p y e = subst P (same_Some x y e) p
 
 objects_there : next_object opening ≡ built_in_count
-objects_there = worked.opening.size
+objects_there = worked.places.size
 
 environments_there : next_environment opening ≡ 1
-unfolding realm.opening realm.each realm.freeze_all realm.rows realm.named_errors
+unfolding realm.opening realm.each realm.freeze_all realm.rows realm.named_errors realm.named_objects
 environments_there = refl
 
 -- more names change no object
@@ -49,10 +49,10 @@ file_objects-size h =
 opened_holds : HoldsErrors (file_objects opening)
 opened_holds = record { each = by }
   where
-    size : next_object (file_objects opening) ≡ 11
+    size : next_object (file_objects opening) ≡ 67
     size = file_objects-size opening ∙ ap (λ n. n + 2) objects_there
 
-    low : (place : ℕ) → place < 11 → place < next_object (file_objects opening)
+    low : (place : ℕ) → place < 67 → place < next_object (file_objects opening)
     low place below = subst (λ n. place < n) (sym size) below
 
     by : (kind : ErrorKind) → HoldsObject (file_objects opening) (number_of (error_prototype kind))
@@ -65,9 +65,9 @@ opened_holds = record { each = by }
 -- the objects of a file inherit from one that is there
 pub holds_prototype : (h : Heap) (o : ℕ) → h ≡ opening → o ≡ number_of ObjectPrototype → HoldsObject h o
 holds_prototype h o is at =
-    let size : next_object h ≡ 9 = ap next_object is ∙ objects_there in
-    let first : 0 < 9 = omega arith in
-    subst (λ n. o < n) (sym size) (subst (λ k. k < 9) (sym at) first)
+    let size : next_object h ≡ 65 = ap next_object is ∙ objects_there in
+    let first : 0 < 65 = omega arith in
+    subst (λ n. o < n) (sym size) (subst (λ k. k < 65) (sym at) first)
 
 -- and its environment stands in one that is there
 pub holds_global : (h : Heap) (e : ℕ) → h ≡ file_objects opening → e ≡ global_environment → HoldsEnvironment h e

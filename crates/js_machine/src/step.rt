@@ -443,7 +443,7 @@ fn is_said(operator: BinaryOperator) -> bool
     ensures { result ≡ has_answer operator }
 {
     match operator {
-        BinaryOperator::Add | BinaryOperator::Subtract | BinaryOperator::LessThan => true,
-        _ => false,
+        BinaryOperator::In | BinaryOperator::InstanceOf => false,
+        _ => true,
     }
 }

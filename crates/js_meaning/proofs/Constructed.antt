@@ -6,7 +6,7 @@ use Rattle.js_tree.specs.declared.construct.Construct.TheVariants as construct
 use Rattle.js_tree.specs.declared.place.Loc.{Loc}
 use Rattle.js_tree.specs.declared.construct.ConstructKind.TheVariants as construct_kind
 use Rattle.js_tree.specs.declared.words.Identifier.{Identifier}
-use Rattle.js_meaning.specs.Entered.{PlacedMark, placed, with_place, places_of, place_by, places_after, how_many, entered_file, entered_expr, entered_stmt, entered_property, entered_property_key, entered_concise_body, entered_for_init, entered_for_target, entered_template_part, entered_function, entered_function_body, entered_param, entered_declarator, entered_case, entered_catch, entered_expr_if, entered_stmt_if, entered_exprs, entered_template_parts, entered_properties, entered_params, entered_stmts, entered_declarators, entered_cases}
+use Rattle.js_tree.specs.Entered.{PlacedMark, placed, with_place, places_of, place_by, places_after, how_many, entered_expr, entered_stmt, entered_property, entered_property_key, entered_concise_body, entered_for_init, entered_for_target, entered_template_part, entered_function, entered_function_body, entered_param, entered_declarator, entered_case, entered_catch, entered_expr_if, entered_stmt_if, entered_exprs, entered_template_parts, entered_properties, entered_params, entered_stmts, entered_declarators, entered_cases}
 use Rattle.js_meaning.specs.Counted.{kind_of, after, marks_of, numbered, paths_from, MarksEnter, MarksConstructs}
 use Rattle.js_tree.specs.Plain.{Expr, IdentifierReference, This, NullLiteral, BooleanLiteral, NumericLiteral, StringLiteral, ArrayLiteral, ObjectLiteral, FunctionExpression, ArrowFunction, RegularExpressionLiteral, TemplateLiteral, Parenthesized, NamedMember, ComputedMember, New, Call, PostfixUpdate, PrefixUpdate, Unary, Binary, Logical, Conditional, Assignment, Comma, Entered}
 use Rattle.js_tree.specs.Plain.{Stmt, Directive, Block, VariableDeclaration, Empty, Expression, If, DoWhile, While, For, ForIn, ForOf, Continue, Break, Return, Switch, Labelled, Throw, TryCatch, TryFinally, TryCatchFinally, Debugger, FunctionDeclaration, EnteredStmt}
@@ -32,15 +32,15 @@ use Rattle.js_tree.specs.Plain.{Params, no_param, more_param}
 use Rattle.js_tree.specs.Plain.{Stmts, no_stmt, more_stmt}
 use Rattle.js_tree.specs.Plain.{Declarators, no_declarator, more_declarator}
 use Rattle.js_tree.specs.Plain.{Cases, no_case, more_case}
-use Rattle.js_tree.specs.Plain.{File, MakeFile}
+use Rattle.js_tree.specs.Plain.{MakeFile}
 use Rattle.js_tree.specs.declared.construct.BranchKind.TheVariants as branch_kind
 use Rattle.js_tree.specs.Places.{bare_place, stmt_place, stmt_if_place, case_place, case_places, leaf_places, body_place, braced_place, concise_place}
 use Rattle.js_tree.specs.Marked.{is_mark, one_if}
-use Rattle.js_tree.specs.Unmarked.{unmarked_file, unmarked_expr, unmarked_stmt, unmarked_property, unmarked_property_key, unmarked_concise_body, unmarked_for_init, unmarked_for_target, unmarked_template_part, unmarked_function, unmarked_function_body, unmarked_param, unmarked_declarator, unmarked_case, unmarked_catch, unmarked_expr_if, unmarked_stmt_if, unmarked_exprs, unmarked_template_parts, unmarked_properties, unmarked_params, unmarked_stmts, unmarked_declarators, unmarked_cases}
-use Rattle.js_tree.specs.Linked.{Counts, Numbers, Linked, Marked, Marks, Uncounted, Counted, kept, made, two, three, four, mark, marks, after_marks, after_one, after_code, branched, counted_stmt, counted_expr, function_place, enter_expr, enter_stmt, enter_case, enter_arm, enter_body, enter_concise_body, enter_leaves, labelled, link_file, link_expr, link_stmt, link_property, link_property_key, link_concise_body, link_for_init, link_for_target, link_template_part, link_function, link_function_body, link_param, link_declarator, link_case, link_catch, link_expr_if, link_stmt_if, link_exprs, link_template_parts, link_properties, link_params, link_stmts, link_declarators, link_cases}
+use Rattle.js_tree.specs.Unmarked.{unmarked_expr, unmarked_stmt, unmarked_property, unmarked_property_key, unmarked_concise_body, unmarked_for_init, unmarked_for_target, unmarked_template_part, unmarked_function, unmarked_function_body, unmarked_param, unmarked_declarator, unmarked_case, unmarked_catch, unmarked_expr_if, unmarked_stmt_if, unmarked_exprs, unmarked_template_parts, unmarked_properties, unmarked_params, unmarked_stmts, unmarked_declarators, unmarked_cases}
+use Rattle.js_tree.specs.Linked.{Counts, Numbers, Linked, Marked, Marks, Uncounted, Counted, kept, made, two, three, four, mark, marks, after_marks, after_one, after_code, branched, counted_stmt, counted_expr, function_place, enter_expr, enter_stmt, enter_case, enter_arm, enter_body, enter_concise_body, enter_leaves, labelled, link_expr, link_stmt, link_property, link_property_key, link_concise_body, link_for_init, link_for_target, link_template_part, link_function, link_function_body, link_param, link_declarator, link_case, link_catch, link_expr_if, link_stmt_if, link_exprs, link_template_parts, link_properties, link_params, link_stmts, link_declarators, link_cases}
 use Rattle.js_walk.specs.Part.{AnExpr, AStmt, AProperty, APropertyKey, AConciseBody, AForInit, AForTarget, ATemplatePart, AFunction, AFunctionBody, AParam, ADeclarator, ACase, ACatch}
 use Rattle.js_walk.specs.Walk.{visit, within_expr, within_stmt, within_property, within_property_key, within_concise_body, within_for_init, within_for_target, within_template_part, within_function, within_function_body, within_param, within_declarator, within_case, within_catch, within_expr_if, within_stmt_if, within_exprs, within_template_parts, within_properties, within_params, within_stmts, within_declarators, within_cases}
-use Rattle.js_walk.specs.Constructs.{own_construct, chained_in, all_named, number_after, counted, counted_function, branch, if_branch, one_column, constructs_file}
+use Rattle.js_walk.specs.Constructs.{own_construct, chained_in, all_named, number_after, counted, counted_function, branch, if_branch}
 
 pub many_append : (such : PlacedMark → Bool) (xs ys : List PlacedMark) → how_many such (xs ++ ys) ≡ how_many such xs + how_many such ys
 many_append such [] ys = omega arith

@@ -1,5 +1,5 @@
 -- A run without counting ends and prints as the counted one.
-use Rattle.std.proofs.Common.{◌≡◌, ℕ, zero, suc, ◌+◌, ◌-◌, List, [], ◌∷◌, length, Option, Some, None, refl, ap, ◌∙◌, subst}
+use Rattle.std.proofs.Common.{◌≡◌, ℕ, ◌-◌, List, Option, Some, None, refl, ap, ◌∙◌, subst}
 use Rattle.std.specs.Prelude.{option_map}
 use Rattle.js_tree.specs.Mark.{Mark}
 use Rattle.js_value.specs.State.{Store}
@@ -8,7 +8,7 @@ use Rattle.js_meaning.specs.declared.outcome.Outcome.TheVariants.{Completes, Ref
 use Rattle.js_meaning.specs.declared.outcome.End.TheVariants.{Going}
 use Rattle.js_meaning.specs.Effects.{Ran}
 use Rattle.js_meaning.specs.Program.{Sources, uncounted, file_at}
-use Rattle.js_meaning.specs.World.{World, world, told, PlainRun, plain, plainly, meaning, end_of}
+use Rattle.js_meaning.specs.World.{World, told, PlainRun, plainly, meaning, end_of}
 use Rattle.js_meaning.specs.Laws.{IsOver, Continues, RunsAlike, but_for, charged, charged_in, EndsPlainly}
 use Rattle.js_meaning.proofs.Uncounted.{without_counting}
 

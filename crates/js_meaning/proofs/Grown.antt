@@ -26,7 +26,6 @@ use Rattle.js_meaning.specs.declared.outcome.Completion.TheVariants as completio
 use Rattle.js_meaning.specs.Effects as E
 use Rattle.js_meaning.specs.Effects.{Entry, Comp, ret, enter, handle}
 use Rattle.js_meaning.specs.Program.{Source, Sources}
-use Rattle.js_meaning.specs.VarNames.{var_stmts}
 use Rattle.js_meaning.specs.Meaning as M
 use Rattle.js_meaning.specs.Files as F
 use Rattle.js_meaning.proofs.Growth.{Grows, grows_handle, same_list, longer, same_store}
@@ -244,7 +243,10 @@ grows_start p (Some source) file = grows_if source.counted _ _ (λ c. tt) (grows
 
 pub grows_inside : (p : Sources) (e : Entry) → Grows (F.inside p e)
 grows_inside p (E.Call code env this arguments) = grows_unsaid
-grows_inside p (E.CallBuiltIn callee function maker this arguments) = λ s. (record { output = same_list s.output; log = same_list s.log }, grows_native (native_of function (is_some maker) this arguments s.heap))
+grows_inside p (E.CallBuiltIn callee function maker this arguments) = λ s. (
+  record { output = same_list s.output; log = same_list s.log },
+  grows_if (F.can_call this arguments s.heap) _ _ (grows_native (native_of function (is_some maker) this arguments s.heap)) grows_unsaid,
+)
 grows_inside p (E.Turn x labels env) = grows_a_turn p x labels env
 grows_inside p (E.Construct mark) = λ s. (record { output = same_list s.output; log = longer s.log (mark ∷ []) }, tt)
 grows_inside p (E.Start file) = grows_run_file p _ file

@@ -14,7 +14,7 @@ use Rattle.js_tree.specs.Plain.{File}
 use Rattle.js_tree.specs.Unmarked.{unmarked_file}
 use Rattle.js_tree.specs.Linked.{Numbers, Counts, Marked, mark, next_of, after_one, link_file}
 use Rattle.js_walk.specs.Constructs.{constructs_file}
-use Rattle.js_meaning.specs.Entered.{PlacedMark, placed, entered_file, times_placed}
+use Rattle.js_tree.specs.Entered.{PlacedMark, placed, entered_file, times_placed}
 use Rattle.js_meaning.specs.Counted.{kind_of, after, paths_from, marks_of, numbered}
 use Rattle.js_meaning.proofs.Constructed.{many_append, numbered_append, marks_constructs}
 

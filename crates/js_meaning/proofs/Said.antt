@@ -3,10 +3,8 @@ use Rattle.std.proofs.Common.{◌≡◌, Bool, true, ◌&&◌, List, refl, sym, 
 use Rattle.js_tree.specs.declared.place.Loc.{Loc}
 use Rattle.js_tree.specs.declared.operators.BinaryOperator.{BinaryOperator}
 use Rattle.js_tree.specs.Plain.{Expr, Exprs, Stmt, Stmts, Declarator, Declarators, IdentifierReference, File, MakeFile}
-use Rattle.js_tree.specs.Plain as P
 use Rattle.js_text.specs.Token.{Token}
 use Rattle.js_text.specs.declared.Punctuator.{Punctuator}
-use Rattle.js_text.specs.declared.Punctuator.TheVariants as punctuator
 use Rattle.js_text.specs.Reads.{without_comments}
 use Rattle.js_text.specs.Grammar as G
 use Rattle.js_text.specs.Grammar.{SpellsExpr, SpellsArguments, SpellsDeclarator, SpellsDeclarators, SpellsStmt, SpellsStmts, SpellsBody, Sentence, Sign, is_target}

@@ -1,14 +1,12 @@
 -- No tree of the language comes to a form that is not in it.
-use Rattle.std.proofs.Common.{◌≡◌, ℕ, zero, suc, Bool, true, false, ◌&&◌, List, [], ◌∷◌, ◌++◌, Option, Some, None, refl, if◌then◌else◌, ℤ, codes}
-use Rattle.js_tree.specs.declared.operators.BinaryOperator.{BinaryOperator}
+use Rattle.std.proofs.Common.{◌≡◌, ℕ, Bool, true, false, ◌&&◌, List, [], ◌∷◌, ◌++◌, Option, Some, None, refl, if◌then◌else◌, ℤ}
 use Rattle.js_tree.specs.declared.operators.AssignmentOperator.{AssignmentOperator}
 use Rattle.js_tree.specs.declared.operators.AssignmentOperator.TheVariants as assignment
 use Rattle.js_tree.specs.declared.operators.VariableKind.TheVariants as variable
-use Rattle.js_tree.specs.declared.place.Loc.{Loc}
 use Rattle.js_tree.specs.Plain as P
 use Rattle.js_tree.specs.Plain.{Expr, IdentifierReference, NullLiteral, BooleanLiteral, NumericLiteral, StringLiteral, Parenthesized, Binary, Assignment, Entered, Exprs, no_expr, more_expr}
 use Rattle.js_tree.specs.Plain.{Stmt, Directive, Block, VariableDeclaration, Empty, Expression, If, While, EnteredStmt, Stmts, no_stmt, more_stmt, MaybeStmt, none_stmt, some_stmt, entered_none}
-use Rattle.js_tree.specs.Plain.{Declarator, MakeDeclarator, Declarators, no_declarator, more_declarator, BindingIdentifier, MaybeExpr, none_expr, some_expr}
+use Rattle.js_tree.specs.Plain.{Declarator, MakeDeclarator, Declarators, no_declarator, more_declarator, BindingIdentifier, none_expr, some_expr}
 use Rattle.js_value.specs.declared.value.Value.{Value}
 use Rattle.js_value.specs.declared.value.Value.TheVariants as value
 use Rattle.js_value.specs.Operators.{Answer, Gives, Refuses, binary, to_boolean, has_answer}
@@ -19,12 +17,11 @@ use Rattle.js_value.specs.Environments.{Cell, lookup, value_of, assign_answer, A
 use Rattle.js_value.specs.Realm.{undefined}
 use Rattle.js_meaning.specs.declared.outcome.Completion.{Completion}
 use Rattle.js_meaning.specs.declared.outcome.Completion.TheVariants as completion
-use Rattle.js_meaning.specs.Effects as E
-use Rattle.js_meaning.specs.Effects.{Entry, Comp, ret, refuse, act, enter, handle}
+use Rattle.js_meaning.specs.Effects.{Comp, ret, refuse, act, enter, handle}
 use Rattle.js_meaning.specs.Program.{Sources}
 use Rattle.js_meaning.specs.Meaning as M
-use Rattle.js_meaning.specs.Language.{is_said_expr, are_said_exprs, is_said_target, is_said_assignment, is_said_kind, is_said_declarator, are_said_declarators, is_said_stmt, are_said_stmts, is_said_stmt_if}
-use Rattle.js_meaning.specs.Laws.{IsSaidEntry, is_said_turn, Says, SaysWhatIsSaid, SaysTurns}
+use Rattle.js_meaning.specs.Language.{is_said_expr, are_said_exprs, is_said_target, is_said_assignment, is_said_declarator, are_said_declarators, is_said_stmt, are_said_stmts, is_said_stmt_if}
+use Rattle.js_meaning.specs.Laws.{is_said_turn, Says, SaysWhatIsSaid, SaysTurns}
 
 pub left_true : (a b : Bool) → (a && b) ≡ true → a ≡ true
 left_true true b k = refl

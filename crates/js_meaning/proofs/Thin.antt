@@ -1,5 +1,5 @@
 -- A run with marks, and the run without them: the second needs a step less for each mark and each start that the first was charged.
-use Rattle.std.proofs.Common.{◌≡◌, ℕ, zero, suc, ◌+◌, Bool, true, false, List, [], ◌∷◌, ◌++◌, length, Option, Some, None, refl, sym, ap, ◌∙◌, subst, arith}
+use Rattle.std.proofs.Common.{◌≡◌, ℕ, zero, suc, ◌+◌, true, List, [], ◌∷◌, ◌++◌, Option, Some, refl, sym, ap, ◌∙◌, subst, arith}
 use Rattle.std.specs.Prelude.{slice_get}
 use Rattle.std.proofs.lemmas.List.{length_push}
 use Rattle.js_tree.specs.Mark.{Mark}
@@ -19,7 +19,7 @@ use Rattle.js_meaning.specs.Effects.{Entry, Call, CallBuiltIn, Turn, Construct, 
 use Rattle.js_meaning.specs.Program.{Source, Sources}
 use Rattle.js_meaning.specs.Meaning.{with_value}
 use Rattle.js_meaning.specs.Files.{inside, begin, body, run_file}
-use Rattle.js_meaning.specs.Laws.{Extends, IsOver, RunsAlike, is_counted, counted_starts, charged, but_for}
+use Rattle.js_meaning.specs.Laws.{RunsAlike, is_counted, counted_starts, charged, but_for}
 use Rattle.js_meaning.proofs.Handle.{handle_again}
 use Rattle.js_meaning.proofs.Growth.{Grows, grows_handle, same_list, adds}
 

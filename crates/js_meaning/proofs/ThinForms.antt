@@ -1,5 +1,5 @@
 -- Each form without its marks does what it does with them, but for their steps.
-use Rattle.std.proofs.Common.{◌≡◌, ℕ, zero, suc, ◌+◌, Bool, true, false, List, [], ◌∷◌, ◌++◌, map, Option, Some, None, refl, sym, ap, ◌∙◌, subst, arith, if◌then◌else◌, ℤ, codes, is_some}
+use Rattle.std.proofs.Common.{◌≡◌, ℕ, ◌+◌, Bool, true, false, List, [], ◌∷◌, ◌++◌, Option, Some, None, refl, sym, ap, ◌∙◌, subst, arith, if◌then◌else◌, ℤ, codes, is_some}
 use Rattle.std.specs.Prelude.{slice_get, option_map}
 use Rattle.std.proofs.lemmas.Option.{slice_get-map}
 use Rattle.js_tree.specs.declared.place.Loc.{Loc}
@@ -11,9 +11,9 @@ use Rattle.js_tree.specs.Mark.{Mark}
 use Rattle.js_tree.specs.Marked.{one_if}
 use Rattle.js_tree.specs.Plain as P
 use Rattle.js_tree.specs.Plain.{none_pattern, some_pattern}
-use Rattle.js_tree.specs.Plain.{Expr, IdentifierReference, This, NullLiteral, BooleanLiteral, NumericLiteral, StringLiteral, ArrayLiteral, ObjectLiteral, FunctionExpression, ArrowFunction, RegularExpressionLiteral, TemplateLiteral, Parenthesized, NamedMember, ComputedMember, New, PostfixUpdate, PrefixUpdate, Unary, Binary, Logical, Conditional, Assignment, Entered, Exprs, no_expr, more_expr}
-use Rattle.js_tree.specs.Plain.{Stmt, Directive, Block, VariableDeclaration, Empty, Expression, If, DoWhile, While, For, ForIn, ForOf, Switch, Labelled, TryCatch, TryFinally, TryCatchFinally, Debugger, FunctionDeclaration, EnteredStmt, Stmts, no_stmt, more_stmt, MaybeStmt, none_stmt, some_stmt, entered_none}
-use Rattle.js_tree.specs.Plain.{Declarator, MakeDeclarator, Declarators, no_declarator, more_declarator, Pattern, BindingIdentifier, MaybeExpr, none_expr, some_expr, MakeFile}
+use Rattle.js_tree.specs.Plain.{Expr, IdentifierReference, NullLiteral, BooleanLiteral, NumericLiteral, StringLiteral, Parenthesized, Binary, Assignment, Entered, Exprs, no_expr, more_expr}
+use Rattle.js_tree.specs.Plain.{Stmt, Directive, Block, VariableDeclaration, Empty, Expression, If, DoWhile, While, For, ForIn, ForOf, Switch, Labelled, TryCatch, TryFinally, TryCatchFinally, EnteredStmt, Stmts, no_stmt, more_stmt, MaybeStmt, none_stmt, some_stmt, entered_none}
+use Rattle.js_tree.specs.Plain.{Declarator, MakeDeclarator, Declarators, no_declarator, more_declarator, BindingIdentifier, MaybeExpr, none_expr, some_expr, MakeFile}
 use Rattle.js_tree.specs.Plain.{ForInit, NoInit, InitDeclaration, InitExpression, ForTarget, TargetDeclaration, TargetExpression, Case, MakeCase, EnteredCase, Cases, no_case, more_case, Catch, MakeCatch}
 use Rattle.js_tree.specs.Unmarked.{unmarked_expr, unmarked_exprs, unmarked_expr_if, unmarked_stmt, unmarked_stmts, unmarked_stmt_if, unmarked_declarator, unmarked_declarators, unmarked_for_init, unmarked_for_target, unmarked_case, unmarked_cases, unmarked_catch, unmarked_file}
 use Rattle.js_value.specs.declared.value.Value.{Value}
@@ -22,26 +22,25 @@ use Rattle.js_value.specs.Operators.{Answer, Gives, Refuses, binary, to_boolean,
 use Rattle.js_value.specs.Numbers.{literal_value}
 use Rattle.js_value.specs.State.{ObjectKind, Plain, Array, Error, RegExp, BuiltIn, Written, Heap, Store}
 use Rattle.js_value.specs.Objects.{kind_of, next_object}
-use Rattle.js_value.specs.Environments as environments
 use Rattle.js_value.specs.Environments.{Cell, lookup, value_of, assign_answer, Assign, Done, Dead, Constant, next_environment}
 use Rattle.js_value.specs.Running.{on_heap}
 use Rattle.js_value.specs.declared.error_kind.ErrorKind.{ErrorKind}
 use Rattle.js_value.specs.declared.error_kind.ErrorKind.TheVariants.{TypeError, ReferenceError}
-use Rattle.js_value.specs.Realm.{undefined, global_environment}
+use Rattle.js_value.specs.Realm.{undefined}
 use Rattle.js_value.specs.Host.{Native, Answers, Throws, Refuses as RefusesKind, Writes, Calls, Requires, native_of}
 use Rattle.js_meaning.specs.declared.outcome.Completion.{Completion}
 use Rattle.js_meaning.specs.declared.outcome.Completion.TheVariants as completion
 use Rattle.js_meaning.specs.Effects as E
-use Rattle.js_meaning.specs.Effects.{Entry, Comp, ret, refuse, act, enter, handle}
+use Rattle.js_meaning.specs.Effects.{Entry, Comp, ret, enter}
 use Rattle.js_meaning.specs.Program.{Source, Sources, unmarked, unmarked_source}
 use Rattle.js_walk.specs.Part.{AStmt, AForInit, AForTarget, ADeclarator, ACase, ACatch}
-use Rattle.js_walk.specs.Walk.{visit, within_stmt, within_stmts, within_stmt_if, within_expr_if, within_for_init, within_for_target, within_declarator, within_declarators, within_case, within_cases, within_catch}
+use Rattle.js_walk.specs.Walk.{visit, within_stmt, within_stmt_if, within_expr_if, within_for_init, within_for_target, within_declarator, within_declarators, within_case, within_cases, within_catch}
 use Rattle.js_meaning.specs.VarNames.{is_var, own_var, declares, var_stmts}
 use Rattle.js_meaning.specs.Meaning as M
 use Rattle.js_meaning.specs.Files as F
-use Rattle.js_meaning.specs.Laws.{charged, but_for}
+use Rattle.js_meaning.specs.Laws.{but_for}
 use Rattle.js_meaning.proofs.Handle.{handle_ret}
-use Rattle.js_meaning.proofs.Thin.{SameEntry, unsaids, calls, natives, while_turns, Thin, rets, refuses, acts, enters, marks, starts, handle_thin, value_thin, then_thin, begun}
+use Rattle.js_meaning.proofs.Thin.{SameEntry, unsaids, calls, natives, while_turns, Thin, rets, refuses, acts, enters, marks, starts, handle_thin, then_thin, begun}
 
 -- Trees
 
@@ -312,7 +311,7 @@ module _ (p : Sources) where
     thin_inside e f unsaids = thin_done
     thin_inside e f (calls code env this arguments) = thin_unsaid
     thin_inside e f (natives callee function maker this arguments) = acts (λ s. refl) (λ log started s. refl) (λ log started s.
-        thin_native (native_of function (is_some maker) this arguments s.heap))
+        if_thin (F.can_call this arguments s.heap) (thin_native (native_of function (is_some maker) this arguments s.heap)) thin_unsaid)
     thin_inside e f (while_turns loc test body labels env) = handle_thin p (thin_stmt body [] env) (thin_after_turn labels (thin_stmt (While loc test body) labels env))
 
     thin_after_body : (c : Completion) → Thin p (F.after_body c) (F.after_body c)

@@ -1,19 +1,18 @@
 -- A program without counting is the linked one without its marks; so its runs are those of the counted one, but for their steps.
-use Rattle.std.proofs.Common.{◌≡◌, ℕ, zero, suc, ◌+◌, ◌-◌, ◌≤◌, Bool, true, false, List, [], ◌∷◌, map, length, Option, Some, None, refl, sym, ap, ◌∙◌, subst, arith}
+use Rattle.std.proofs.Common.{◌≡◌, ℕ, zero, suc, ◌+◌, ◌-◌, ◌≤◌, false, List, [], ◌∷◌, map, refl, sym, ap, ◌∙◌, subst, arith}
 use Rattle.std.specs.Prelude.{slice_get}
 use Rattle.js_tree.specs.Plain as P
 use Rattle.js_tree.specs.Marked.{one_if}
 use Rattle.js_tree.specs.Linked.{Unmarked, link_file}
 use Rattle.js_tree.proofs.Unmarked.{unmarks_linked}
-use Rattle.js_value.specs.State.{Store}
 use Rattle.js_value.specs.Realm.{realm}
-use Rattle.js_meaning.specs.Effects.{Ran, exec}
+use Rattle.js_meaning.specs.Effects.{Ran}
 use Rattle.js_meaning.specs.Program.{Source, Sources, marking, from, link_source, link_sources, linked, unmarked_source, unmarked, uncounted_source, uncounted}
-use Rattle.js_meaning.specs.Files.{inside, start_file}
+use Rattle.js_meaning.specs.Files.{start_file}
 use Rattle.js_meaning.specs.World.{run, meaning}
 use Rattle.js_meaning.specs.Laws.{RunsAlike, RunsWithoutCounting, is_counted, counted_starts, charged}
 use Rattle.js_meaning.proofs.Grown.{grows_inside, grows_start}
-use Rattle.js_meaning.proofs.Thin.{Thinner, thinner}
+use Rattle.js_meaning.proofs.Thin.{thinner}
 use Rattle.js_meaning.proofs.ThinForms.{thin_inside, thin_file}
 
 sources_unmarked : (sources : List Source) (file code code' : ℕ) → code ≡ code' →

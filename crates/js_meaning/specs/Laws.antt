@@ -18,9 +18,9 @@ use Rattle.js_meaning.specs.Effects.{Entry, Call, CallBuiltIn, Turn, Construct, 
 use Rattle.js_meaning.specs.Language.{is_said_stmt, are_said_stmts, is_said_file}
 use Rattle.js_tree.specs.Linked.{Marking, Numbers, link_file}
 use Rattle.js_meaning.specs.Program.{Source, Sources, linked, uncounted, function_at}
-use Rattle.js_meaning.specs.Meaning.{done, entering, comp_expr, comp_stmt, comp_stmts, comp_stmt_if, comp_turn, after_turn}
+use Rattle.js_meaning.specs.Meaning.{entering, comp_expr, comp_stmt, comp_stmts, comp_stmt_if, comp_turn, after_turn}
 use Rattle.js_meaning.specs.Files.{inside}
-use Rattle.js_meaning.specs.Steps.{Result, Completed, Refused, Stopped, then_go, eval, ran_by}
+use Rattle.js_meaning.specs.Steps.{Result, Completed, Stopped, then_go, eval, ran_by}
 use Rattle.js_meaning.specs.declared.outcome.End.TheVariants.{Going}
 use Rattle.js_meaning.specs.World.{meaning, World, world, PlainRun, plain}
 

@@ -1,6 +1,5 @@
 pub mod Counted
 pub mod Effects
-pub mod Entered
 pub mod Files
 pub mod Language
 pub mod Laws

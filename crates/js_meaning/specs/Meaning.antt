@@ -1,7 +1,6 @@
 -- What the forms of a file do (ECMA-262, 13 and 14), for a small language: by cases on the tree.
-use Rattle.std.specs.Prelude.{ℕ, zero, suc, ◌+◌, Bool, true, false, ◌||◌, List, [], ◌∷◌, ◌++◌, Option, Some, None, slice_get, codes, if◌then◌else◌, ℤ}
+use Rattle.std.specs.Prelude.{ℕ, ◌+◌, Bool, true, false, ◌||◌, List, [], ◌∷◌, ◌++◌, Option, Some, None, codes, if◌then◌else◌, ℤ}
 use Rattle.std.specs.Str.{bytes_eq}
-use Rattle.js_tree.specs.declared.place.Loc.{Loc}
 use Rattle.js_tree.specs.declared.operators.BinaryOperator.{BinaryOperator}
 use Rattle.js_tree.specs.declared.operators.AssignmentOperator.{AssignmentOperator}
 use Rattle.js_tree.specs.declared.operators.AssignmentOperator.TheVariants as assignment
@@ -30,7 +29,7 @@ use Rattle.js_value.specs.Host.{error_of, message_of}
 use Rattle.js_value.specs.Realm.{number_of, error_prototype, hidden, text, object, undefined}
 use Rattle.js_meaning.specs.declared.outcome.Completion.{Completion}
 use Rattle.js_meaning.specs.declared.outcome.Completion.TheVariants.{Normal, Break, Continue, Return, Throw}
-use Rattle.js_meaning.specs.Effects.{Entry, Turn, Construct, Comp, ret, refuse, act, enter, handle}
+use Rattle.js_meaning.specs.Effects.{Turn, Construct, Comp, ret, refuse, act, enter, handle}
 use Rattle.js_meaning.specs.Effects as E
 use Rattle.js_meaning.specs.Program.{Sources}
 

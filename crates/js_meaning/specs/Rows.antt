@@ -15,7 +15,7 @@ use Rattle.js_tree.specs.declared.construct.ConstructKind.TheVariants as constru
 use Rattle.js_tree.specs.Mark.{Mark}
 use Rattle.js_meaning.specs.declared.outcome.End.{End}
 use Rattle.js_meaning.specs.declared.outcome.End.TheVariants.{Done, Threw, Range, Going}
-use Rattle.js_meaning.specs.Entered.{entered_file, placed}
+use Rattle.js_tree.specs.Entered.{entered_file, placed}
 use Rattle.js_meaning.specs.Program.{Sources, from}
 use Rattle.js_meaning.specs.World.{world, PlainRun, plain}
 

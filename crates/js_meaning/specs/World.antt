@@ -1,5 +1,5 @@
 -- How a program runs: its end, what it prints, and what it enters, with so many steps.
-use Rattle.std.specs.Prelude.{ℕ, suc, ◌+◌, Bool, ◌&&◌, List, [], ◌∷◌, ◌++◌, Option, Some, None, nat_eq, codes, if◌then◌else◌, option_map}
+use Rattle.std.specs.Prelude.{ℕ, ◌+◌, List, [], ◌∷◌, ◌++◌, Option, Some, None, codes, option_map}
 use Rattle.js_tree.specs.Mark.{Mark}
 use Rattle.js_tree.specs.Marked.{times}
 use Rattle.js_value.specs.declared.value.Value.{Value}

@@ -15,8 +15,6 @@ use Rattle.js_tree.specs.Plain.{Param, MakeParam}
 use Rattle.js_tree.specs.Plain.{Declarator, MakeDeclarator}
 use Rattle.js_tree.specs.Plain.{Case, MakeCase, EnteredCase}
 use Rattle.js_tree.specs.Plain.{Catch, MakeCatch}
-use Rattle.js_tree.specs.Plain.{Pattern, BindingIdentifier}
-use Rattle.js_tree.specs.Plain.{MaybePattern, none_pattern, some_pattern}
 use Rattle.js_tree.specs.Plain.{MaybeExpr, none_expr, some_expr}
 use Rattle.js_tree.specs.Plain.{MaybeStmt, none_stmt, some_stmt, entered_none}
 use Rattle.js_tree.specs.Plain.{Exprs, no_expr, more_expr}
@@ -26,7 +24,7 @@ use Rattle.js_tree.specs.Plain.{Params, no_param, more_param}
 use Rattle.js_tree.specs.Plain.{Stmts, no_stmt, more_stmt}
 use Rattle.js_tree.specs.Plain.{Declarators, no_declarator, more_declarator}
 use Rattle.js_tree.specs.Plain.{Cases, no_case, more_case}
-use Rattle.js_tree.specs.Plain.{File, MakeFile}
+use Rattle.js_tree.specs.Plain.{MakeFile}
 use Rattle.js_tree.specs.declared.construct.ConstructKind.TheVariants as construct_kind
 use Rattle.js_tree.specs.declared.words.Identifier.{Identifier}
 use Rattle.js_tree.specs.Places.{bare_place, concise_place, braced_place, leaf_places}

@@ -18,8 +18,6 @@ use Rattle.js_tree.specs.Plain.{Param, MakeParam}
 use Rattle.js_tree.specs.Plain.{Declarator, MakeDeclarator}
 use Rattle.js_tree.specs.Plain.{Case, MakeCase, EnteredCase}
 use Rattle.js_tree.specs.Plain.{Catch, MakeCatch}
-use Rattle.js_tree.specs.Plain.{Pattern, BindingIdentifier}
-use Rattle.js_tree.specs.Plain.{MaybePattern, none_pattern, some_pattern}
 use Rattle.js_tree.specs.Plain.{MaybeExpr, none_expr, some_expr}
 use Rattle.js_tree.specs.Plain.{MaybeStmt, none_stmt, some_stmt, entered_none}
 use Rattle.js_tree.specs.Plain.{Exprs, no_expr, more_expr}
@@ -29,9 +27,9 @@ use Rattle.js_tree.specs.Plain.{Params, no_param, more_param}
 use Rattle.js_tree.specs.Plain.{Stmts, no_stmt, more_stmt}
 use Rattle.js_tree.specs.Plain.{Declarators, no_declarator, more_declarator}
 use Rattle.js_tree.specs.Plain.{Cases, no_case, more_case}
-use Rattle.js_tree.specs.Plain.{File, MakeFile}
+use Rattle.js_tree.specs.Plain.{MakeFile}
 use Rattle.js_tree.specs.Places.{bare_place, concise_place, braced_place, leaf_places}
-use Rattle.js_tree.specs.Linked.{Marking, Unmarked, Marked, Numbers, Linked, Marks, Uncounted, Counted, kept, made, two, three, four, marks, after_marks, after_code, counting, branched, counted_stmt, counted_expr, enter_expr, enter_stmt, enter_case, enter_arm, enter_leaves, enter_body, enter_concise_body, function_place, labelled, link_expr, link_stmt, link_property, link_property_key, link_concise_body, link_for_init, link_for_target, link_template_part, link_function, link_function_body, link_param, link_declarator, link_case, link_catch, link_expr_if, link_stmt_if, link_exprs, link_template_parts, link_properties, link_params, link_stmts, link_declarators, link_cases}
+use Rattle.js_tree.specs.Linked.{Marking, Unmarked, Marked, Numbers, Linked, Marks, Uncounted, Counted, kept, made, two, three, four, marks, after_marks, after_code, branched, counted_stmt, counted_expr, enter_expr, enter_stmt, enter_case, enter_arm, enter_leaves, enter_body, enter_concise_body, function_place, labelled, link_expr, link_stmt, link_property, link_property_key, link_concise_body, link_for_init, link_for_target, link_template_part, link_function, link_function_body, link_param, link_declarator, link_case, link_catch, link_expr_if, link_stmt_if, link_exprs, link_template_parts, link_properties, link_params, link_stmts, link_declarators, link_cases}
 use Rattle.js_tree.specs.Unmarked.{UnmarksLinked, unmarked_expr, unmarked_stmt, unmarked_property, unmarked_property_key, unmarked_concise_body, unmarked_for_init, unmarked_for_target, unmarked_template_part, unmarked_function, unmarked_function_body, unmarked_param, unmarked_declarator, unmarked_case, unmarked_catch, unmarked_expr_if, unmarked_stmt_if, unmarked_exprs, unmarked_template_parts, unmarked_properties, unmarked_params, unmarked_stmts, unmarked_declarators, unmarked_cases}
 
 -- two trees are equal, and so are the numbers of functions after them

@@ -1,8 +1,13 @@
 pub mod DigitsLemmas
 pub mod ExamplesLemmas
+pub mod HostWorked
 pub mod KeyLemmas
 pub mod NumbersLemmas
 pub mod PointLemmas
+pub mod PowerLemmas
+pub mod RealmWorked
+mod RangesLemmas
 pub mod StoreWorked
 pub mod Tenth
 mod TwoRunsLemmas
+mod TwoRunsObjects

@@ -1,6 +1,8 @@
 -- The built-in functions that look at no object, in two runs.
-use Rattle.std.proofs.Common.{◌≡◌, ℕ, Bool, true, false, List, ◌∷◌, map, Ok, Err, refl, subst, ap₂}
+use Rattle.std.proofs.Common.{◌≡◌, ℕ, Bool, true, false, List, [], ◌∷◌, map, Ok, Err, refl, subst, ap₂}
 use Rattle.js_value.specs.declared.value.Value.{Value}
+use Rattle.js_value.specs.declared.value.Value.TheVariants as value
+use Rattle.js_value.specs.declared.value.Primitive.TheVariants as primitive
 use Rattle.js_value.specs.declared.built_in.BuiltIn.TheVariants as built_in
 use Rattle.js_value.specs.declared.built_in.OnData.{OnData}
 use Rattle.js_value.specs.declared.deed.Halt.TheVariants.{Throw}
@@ -8,8 +10,9 @@ use Rattle.js_value.specs.declared.deed.Complaint.TheVariants.{NotAConstructor}
 use Rattle.js_value.specs.declared.deed.Datum.{Datum}
 use Rattle.js_value.specs.declared.deed.Datum.TheVariants as datum
 use Rattle.js_value.specs.State.{Heap}
+use Rattle.js_value.specs.Realm.{text}
 use Rattle.js_value.specs.Host.{Or, ◌>>=◌, seen, of_data, deed_of, done_by}
-use Rattle.js_value.specs.TwoRuns.{Related, plain, refs, AllRelated, none, more, RelatedDeeds, line, RelatedAnswers, ok, err}
+use Rattle.js_value.specs.TwoRuns.{Related, plain, refs, AllRelated, none, more, RelatedDeeds, give, makes_array, line, RelatedAnswers, ok, err}
 
 module _ (R : ℕ → ℕ → Type 0) where
   pub seen-rel : (v w : Value) → Related R v w → seen v ≡ seen w
@@ -28,7 +31,13 @@ module _ (R : ℕ → ℕ → Type 0) where
       go (Ok a) = each a
       go (Err h) = err h
 
+  pub texts-rel : (ts : List (List ℕ)) → AllRelated R (map text ts) (map text ts)
+  texts-rel [] = none
+  texts-rel (t ∷ ts) = more (text t) (text t) (plain (primitive.Text t)) (map text ts) (map text ts) (texts-rel ts)
+
   pub deed_of-rel : (d : Datum) → RelatedDeeds R (deed_of d) (deed_of d)
+  deed_of-rel (datum.One p) = give (value.Primitive p) (value.Primitive p) (plain p)
+  deed_of-rel (datum.Texts ts) = makes_array (map text ts) (map text ts) (texts-rel ts)
   deed_of-rel (datum.Line us) = line us
 
   pub data_related : (f : OnData) (constructing : Bool) (this that : Value) (vs ws : List Value) (h k : Heap) → Related R this that → AllRelated R vs ws →

@@ -1,5 +1,8 @@
--- Which keys of properties are indices (ECMA-262, 6.1.7), and the order of keys (10.1.11).
-use Rattle.std.specs.Prelude.{ℕ, ◌+◌, ◌*◌, ◌-◌, ◌^◌, Bool, ◌&&◌, List, [], ◌∷◌, ◌++◌, Option, Some, None, nat_lt, nat_le, nat_eq, if◌then◌else◌}
+-- Which keys of properties are indices (ECMA-262, 6.1.7), and the order of keys (10.1.11.1).
+use Rattle.std.specs.Prelude.{ℕ, ◌+◌, ◌*◌, ◌-◌, ◌^◌, ◌&&◌, List, [], ◌∷◌, ◌++◌, map, fold, Option, Some, None, nat_lt, nat_le, nat_eq, if◌then◌else◌}
+use Rattle.std.specs.Ordering.{nat_cmp}
+use Rattle.std.specs.BTreeMap.{insert_entry}
+use Rattle.js_value.specs.declared.key.Key.{Key}
 use Rattle.js_value.specs.State.{Property}
 
 -- the value of a decimal digit
@@ -28,35 +31,21 @@ if_index (Some n) = if nat_lt n (2 ^ 32 - 1) then Some n else None
 abbrev pub index_of : List ℕ → Option ℕ
 index_of key = if_index (numeral_of key)
 
--- a key, and whether its property is enumerable
-pub record Key : Type 0 where
-  pub key : List ℕ
-  pub enumerable : Bool
-
+-- the key of a property, and whether it is enumerable
 abbrev pub key_of : Property → Key
 key_of property = record { key = property.key; enumerable = property.enumerable }
 
--- an index with its key
-pub record Indexed : Type 0 where
-  pub index : ℕ
-  pub key : Key
-
--- an index put before the first that is greater
-abbrev pub placed : Indexed → List Indexed → List Indexed
-placed x [] = x ∷ []
-placed x (y ∷ ys) = if nat_lt x.index y.index then x ∷ y ∷ ys else y ∷ placed x ys
-
--- the keys that are indices, ascending
-abbrev pub indexed : List Property → List Indexed
-indexed [] = []
-indexed (p ∷ ps) = elim (index_of p.key) [
-  | None ↦ indexed ps
-  | Some n ↦ placed (record { index = n; key = key_of p }) (indexed ps)
+-- the key of one more property, where it is an index, among those that are there in the order of their indices: keys differ,
+-- and so do the indices
+abbrev pub put_index : List (ℕ × Key) → Property → List (ℕ × Key)
+put_index sorted property = elim (index_of property.key) [
+  | None ↦ sorted
+  | Some n ↦ insert_entry nat_cmp sorted n (key_of property)
 ]
 
-abbrev pub keys_of : List Indexed → List Key
-keys_of [] = []
-keys_of (x ∷ xs) = x.key ∷ keys_of xs
+-- the keys that are indices, ascending
+abbrev pub indexed : List Property → List (ℕ × Key)
+indexed properties = fold put_index [] properties
 
 -- the other keys, as they were added
 abbrev pub others : List Property → List Key
@@ -66,6 +55,6 @@ others (p ∷ ps) = elim (index_of p.key) [
   | Some n ↦ others ps
 ]
 
--- 10.1.11: the indices ascending, and then the others as they were added
+-- 10.1.11.1: the indices ascending, and then the others as they were added
 abbrev pub ordered_keys : List Property → List Key
-ordered_keys properties = keys_of (indexed properties) ++ others properties
+ordered_keys properties = map (λ x. x.1) (indexed properties) ++ others properties

@@ -6,7 +6,8 @@ use Rattle.js_value.specs.declared.value.Value.{Value}
 use Rattle.js_value.specs.declared.value.Value.TheVariants as value
 use Rattle.js_value.specs.declared.value.Primitive.TheVariants as primitive
 use Rattle.js_value.specs.State.{ObjectKind, Plain, Array, BuiltIn, Written, Property, ObjectRecord, Heap}
-use Rattle.js_value.specs.Key.{index_of, Key, ordered_keys}
+use Rattle.js_value.specs.declared.key.Key.{Key}
+use Rattle.js_value.specs.Key.{index_of, ordered_keys}
 use Rattle.js_value.specs.Numbers.{decimal_text}
 
 -- stands for what is not there: no operation is asked about it
@@ -103,15 +104,15 @@ found (suc n) h (Some o) key = elim (own h o key) [
 abbrev pub get : Heap → ℕ → List ℕ → Option Value
 get h o key = option_map (λ f. f.property.value) (found (suc o) h (Some o) key)
 
--- the keys of elements, from an index on
-abbrev pub element_keys : ℕ → List Value → List Key
-element_keys n [] = []
-element_keys n (v ∷ vs) = record { key = decimal_text (pos n); enumerable = true } ∷ element_keys (suc n) vs
+-- so many indices as keys, from one on
+abbrev pub index_keys : (from count : ℕ) → List Key
+index_keys n zero = []
+index_keys n (suc count) = record { key = decimal_text (pos n); enumerable = true } ∷ index_keys (suc n) count
 
 abbrev pub keys_of_object : ObjectRecord → List Key
 keys_of_object object =
     if is_array object.kind
-    then element_keys 0 object.elements ++ record { key = array_length; enumerable = false } ∷ ordered_keys object.properties
+    then index_keys 0 (length object.elements) ++ record { key = array_length; enumerable = false } ∷ ordered_keys object.properties
     else ordered_keys object.properties
 
 -- 10.1.11: the own keys
@@ -132,6 +133,23 @@ define o p h = with_properties o (with_property p (object_at h o).properties) h
 -- 20.1.2.6
 abbrev pub freeze : ℕ → Heap → Heap
 freeze o h = with_object o (record (object_at h o) { frozen = true }) h
+
+-- Elements
+
+abbrev pub elements_of : Heap → ℕ → List Value
+elements_of h o = (object_at h o).elements
+
+-- elements in the place of those that an array has
+abbrev pub with_elements : ℕ → List Value → Heap → Heap
+with_elements o elements h = with_object o (record (object_at h o) { elements = elements }) h
+
+-- more elements after those that an array has
+abbrev pub append : ℕ → List Value → Heap → Heap
+append o more h = with_elements o (elements_of h o ++ more) h
+
+-- the first so many elements of an array, and no others
+abbrev pub cut : ℕ → ℕ → Heap → Heap
+cut o n h = with_elements o (take n (elements_of h o)) h
 
 -- Writing
 
@@ -239,17 +257,26 @@ is_function (BuiltIn _) = true
 is_function (Written _ _) = true
 is_function _ = false
 
--- of an array its elements, which would leave a hole, and its length, and of a function its `prototype`, stay
-abbrev pub delete_of : ObjectRecord → List ℕ → Delete
-delete_of object key =
+-- an own property of a function that is its `prototype` from its making, and so isn't enumerable: a built-in one has it where it
+-- constructs; one that a program adds to an arrow or a method is enumerable
+abbrev pub is_prototype_of : ObjectKind → Property → Bool
+is_prototype_of kind p = is_function kind && not p.enumerable && bytes_eq p.key (codes "prototype")
+
+-- an own property: all that a frozen object has, the length of an array and the `prototype` of a function stay, and so do
+-- elements, which would leave a hole
+abbrev pub delete_of : ObjectRecord → Property → Delete
+delete_of object p =
     if object.frozen then IsFrozen
-    else (if is_array object.kind && bytes_eq key array_length then IsFrozen
-    else (if is_function object.kind && bytes_eq key (codes "prototype") then IsFrozen
-    else (if is_array object.kind then elim (index_of key) [ None ↦ Deleted | Some _ ↦ LeavesHole ] else Deleted)))
+    else (if is_array object.kind && bytes_eq p.key array_length then IsFrozen
+    else (if is_prototype_of object.kind p then IsFrozen
+    else (if is_array object.kind then elim (index_of p.key) [ None ↦ Deleted | Some _ ↦ LeavesHole ] else Deleted)))
+
+abbrev pub delete_from : ObjectRecord → List ℕ → Delete
+delete_from object key = elim (own_of object key) [ None ↦ Deleted | Some p ↦ delete_of object p ]
 
 -- 10.1.10
 abbrev pub delete_answer : Heap → ℕ → List ℕ → Delete
-delete_answer h o key = elim (own h o key) [ None ↦ Deleted | Some _ ↦ delete_of (object_at h o) key ]
+delete_answer h o key = delete_from (object_at h o) key
 
 abbrev pub deleted : Delete → List ℕ → List Property → List Property
 deleted Deleted key properties = filter (λ p. not (bytes_eq p.key key)) properties

@@ -1,178 +1,103 @@
--- The conversions and operators of the language (ECMA-262, 7.1 and 13.15.3).
-use Rattle.std.specs.Prelude.{◌≡◌, ℕ, ◌==◌, Bool, true, false, not, ◌&&◌, ◌||◌, List, [], ◌∷◌, ◌++◌, codes, ℤ, pos, ◌+ℤ◌, ◌-ℤ◌, int_lt, unsigned_abs, Option, Some, None, IsTrue, Result, Ok, Err, if◌then◌else◌}
-use Rattle.std.specs.Ordering.{nat_cmp, is_lt}
-use Rattle.std.specs.Cmp.Lexicographic.{slice_cmp}
+-- The binary operators of the language (ECMA-262, 13.6 to 13.12 and 13.15.3).
+use Rattle.std.specs.Prelude.{Bool, true, false, not, ◌||◌, ◌++◌, ℤ, Option, Some, None, option_and_then, if◌then◌else◌}
+use Rattle.std.specs.Ordering.{is_lt, is_gt, is_le, is_ge}
 use Rattle.std.specs.declared.cmp.Ordering.{Ordering}
 use Rattle.js_tree.specs.declared.operators.BinaryOperator.{BinaryOperator}
-use Rattle.js_tree.specs.declared.operators.BinaryOperator.TheVariants.{Add, Subtract, LessThan}
+use Rattle.js_tree.specs.declared.operators.BinaryOperator.TheVariants.{Exponentiate, Multiply, Divide, Remainder, Add, Subtract, LeftShift, SignedRightShift, UnsignedRightShift, LessThan, GreaterThan, LessThanOrEqual, GreaterThanOrEqual, InstanceOf, In, Equal, NotEqual, StrictEqual, StrictNotEqual, BitwiseAnd, BitwiseXor, BitwiseOr}
 use Rattle.js_value.specs.declared.value.Primitive.{Primitive}
 use Rattle.js_value.specs.declared.value.Primitive.TheVariants as P
 use Rattle.js_value.specs.declared.value.Value.{Value}
 use Rattle.js_value.specs.declared.value.Value.TheVariants as V
-use Rattle.js_value.specs.declared.value.Kind.{Kind}
 use Rattle.js_value.specs.declared.value.Kind.TheVariants as K
-use Rattle.js_value.specs.declared.value.OpFault.{OpFault}
-use Rattle.js_value.specs.declared.value.OpFault.TheVariants as F
-use Rattle.js_value.specs.Numbers.{in_range, text_number, decimal_text}
+use Rattle.js_value.specs.Numbers.{ranged}
+use Rattle.js_value.specs.Arithmetic as arithmetic
+use Rattle.js_value.specs.Bits as bits
+use Rattle.js_value.specs.Equality.{Decided, Decides, Undecided, strictly_equal, loosely_equal}
+use Rattle.js_value.specs.Order.{Compared, Stands, NoOrder, compare_values}
+pub use Rattle.js_value.specs.Conversions.{Answer, Gives, Refuses, Answers, given, gives_text, Numbered, Is, NoNumber, Texted, Reads, NoText, is_text, number_of_primitive, to_number, text_of_primitive, to_text, to_boolean}
 
--- what an operator answers: a primitive value, or a range refusal
-pub data Answer : Type 0 where
-  Gives : Primitive → Answer
-  Refuses : Kind → Answer
+-- what an operator makes of two numbers, exactly, where that is whole (13.15.3); the other operators make no number
+abbrev pub exact : BinaryOperator → ℤ → ℤ → Option ℤ
+exact Exponentiate m n = arithmetic.power m n
+exact Multiply m n = arithmetic.product m n
+exact Divide m n = arithmetic.quotient m n
+exact Remainder m n = arithmetic.remainder m n
+exact Add m n = arithmetic.sum m n
+exact Subtract m n = arithmetic.difference m n
+exact LeftShift m n = Some (bits.left_shift m n)
+exact SignedRightShift m n = Some (bits.signed_right_shift m n)
+exact UnsignedRightShift m n = Some (bits.unsigned_right_shift m n)
+exact BitwiseAnd m n = Some (bits.bitwise_and m n)
+exact BitwiseXor m n = Some (bits.bitwise_xor m n)
+exact BitwiseOr m n = Some (bits.bitwise_or m n)
+exact _ m n = None
 
--- what ToNumber answers: a number, or a range refusal
-pub data Numbered : Type 0 where
-  Is : ℤ → Numbered
-  NoNumber : Kind → Numbered
+-- the same where it is in range
+abbrev pub calculated : BinaryOperator → ℤ → ℤ → Option ℤ
+calculated operator m n = option_and_then ranged (exact operator m n)
 
--- what ToString answers: units, or a range refusal
-pub data Texted : Type 0 where
-  Reads : List ℕ → Texted
-  NoText : Kind → Texted
+-- a number as an answer: where there is none, Number is refused
+abbrev pub number_answer : Option ℤ → Answer
+number_answer (Some n) = Gives (P.Number n)
+number_answer None = Refuses K.Number
 
--- whether a primitive value is a text
-abbrev pub is_text : Primitive → Bool
-is_text P.Undefined = false
-is_text P.Null = false
-is_text (P.Boolean b) = false
-is_text (P.Number n) = false
-is_text (P.Text units) = true
-
--- the value that an answer gives, if it gives one
-abbrev pub given : Answer → Option Value
-given (Gives v) = Some (V.Primitive v)
-given (Refuses k) = None
-
--- whether an answer gives a text, for which memory may be wanting
-abbrev pub gives_text : Answer → Bool
-gives_text (Gives v) = is_text v
-gives_text (Refuses k) = false
-
--- a result is this answer: its value, or its refusal; memory may be wanting for a text
-abbrev pub Answers : Answer → Result Value OpFault → Type 0
-Answers answer (Ok value) = given answer ≡ Some value
-Answers answer (Err (F.Refuse k)) = answer ≡ Refuses k
-Answers answer (Err F.Memory) = IsTrue (gives_text answer)
-
--- a number that was read, where there is one
-abbrev pub numbered : Option ℤ → Numbered
-numbered (Some n) = Is n
-numbered None = NoNumber K.Number
-
--- ToNumber of a primitive value (7.1.4); one that ECMA-262 takes to NaN, to a fraction or out of range refuses Number
-abbrev pub number_of_primitive : Primitive → Numbered
-number_of_primitive P.Undefined = NoNumber K.Number
-number_of_primitive P.Null = Is (pos 0)
-number_of_primitive (P.Boolean b) = Is (if b then pos 1 else pos 0)
-number_of_primitive (P.Number n) = Is n
-number_of_primitive (P.Text units) = numbered (text_number units)
-
--- ToNumber (7.1.4); a reference is not converted
-abbrev pub to_number : Value → Numbered
-to_number (V.Primitive p) = number_of_primitive p
-to_number (V.Object o) = NoNumber K.Convert
-
--- ToString of a primitive value (7.1.17)
-abbrev pub text_of_primitive : Primitive → List ℕ
-text_of_primitive P.Undefined = codes "undefined"
-text_of_primitive P.Null = codes "null"
-text_of_primitive (P.Boolean b) = if b then codes "true" else codes "false"
-text_of_primitive (P.Number n) = decimal_text n
-text_of_primitive (P.Text units) = units
-
--- ToString (7.1.17); a reference is not converted
-abbrev pub to_text : Value → Texted
-to_text (V.Primitive p) = Reads (text_of_primitive p)
-to_text (V.Object o) = NoText K.Convert
-
--- ToBoolean of a primitive value (7.1.2)
-abbrev pub boolean_of_primitive : Primitive → Bool
-boolean_of_primitive P.Undefined = false
-boolean_of_primitive P.Null = false
-boolean_of_primitive (P.Boolean b) = b
-boolean_of_primitive (P.Number n) = not (unsigned_abs n == 0)
-boolean_of_primitive (P.Text []) = false
-boolean_of_primitive (P.Text (u ∷ us)) = true
-
--- ToBoolean (7.1.2); every object is true
-abbrev pub to_boolean : Value → Bool
-to_boolean (V.Primitive p) = boolean_of_primitive p
-to_boolean (V.Object o) = true
-
--- how one text stands to another in the order of texts (7.2, IsLessThan): by the first units that differ, and else the shorter first
-abbrev pub compare_units : List ℕ → List ℕ → Ordering
-compare_units xs ys = slice_cmp nat_cmp xs ys
-
--- the first text stands before the second
-abbrev pub units_before : List ℕ → List ℕ → Bool
-units_before xs ys = is_lt (compare_units xs ys)
-
--- the answer that a function of two numbers gives; a refusal of the left operand comes first
-abbrev pub of_numbers : (ℤ → ℤ → Answer) → Numbered → Numbered → Answer
-of_numbers f (NoNumber k) right = Refuses k
-of_numbers f (Is m) (NoNumber k) = Refuses k
-of_numbers f (Is m) (Is n) = f m n
-
--- a number as an answer, where it is in range
-abbrev pub number_answer : ℤ → Answer
-number_answer n = if in_range n then Gives (P.Number n) else Refuses K.Number
-
--- the sum (6.1.6.1.7), the difference (6.1.6.1.8) and the order (6.1.6.1.12) of two numbers
-abbrev pub sum_of : ℤ → ℤ → Answer
-sum_of m n = number_answer (m +ℤ n)
-
-abbrev pub difference_of : ℤ → ℤ → Answer
-difference_of m n = number_answer (m -ℤ n)
-
-abbrev pub order_of : ℤ → ℤ → Answer
-order_of m n = Gives (P.Boolean (int_lt m n))
+-- an operator on numbers, of what ToNumber answered; a refusal of the left operand comes first
+abbrev pub numeric : BinaryOperator → Numbered → Numbered → Answer
+numeric operator (NoNumber k) right = Refuses k
+numeric operator (Is m) (NoNumber k) = Refuses k
+numeric operator (Is m) (Is n) = number_answer (calculated operator m n)
 
 -- `+` of two primitive values (13.15.3): where one is a text, both are joined as texts
 abbrev pub add_primitives : Primitive → Primitive → Answer
 add_primitives a b =
     if is_text a || is_text b then Gives (P.Text (text_of_primitive a ++ text_of_primitive b))
-    else of_numbers sum_of (number_of_primitive a) (number_of_primitive b)
+    else numeric Add (number_of_primitive a) (number_of_primitive b)
 
--- `-` of two primitive values (13.15.3)
-abbrev pub subtract_primitives : Primitive → Primitive → Answer
-subtract_primitives a b = of_numbers difference_of (number_of_primitive a) (number_of_primitive b)
-
--- `<` of two primitive values (7.2, IsLessThan): two texts are compared as texts
-abbrev pub less_than_primitives : Primitive → Primitive → Answer
-less_than_primitives a b =
-    if is_text a && is_text b then Gives (P.Boolean (units_before (text_of_primitive a) (text_of_primitive b)))
-    else of_numbers order_of (number_of_primitive a) (number_of_primitive b)
-
--- `+`, `-` and `<`, where a reference is not converted: the left operand's refusal comes first, but for `+`
+-- `+`: a reference is refused before all else
 abbrev pub add : Value → Value → Answer
 add (V.Primitive a) (V.Primitive b) = add_primitives a b
 add (V.Primitive a) (V.Object o) = Refuses K.Convert
 add (V.Object o) right = Refuses K.Convert
 
-abbrev pub subtract : Value → Value → Answer
-subtract (V.Primitive a) (V.Primitive b) = subtract_primitives a b
-subtract (V.Primitive a) (V.Object o) = of_numbers difference_of (number_of_primitive a) (NoNumber K.Convert)
-subtract (V.Object o) right = Refuses K.Convert
+-- `true` or `false`
+abbrev pub truth : Bool → Answer
+truth b = Gives (P.Boolean b)
 
-abbrev pub less_than : Value → Value → Answer
-less_than (V.Primitive a) (V.Primitive b) = less_than_primitives a b
-less_than (V.Primitive a) (V.Object o) = of_numbers order_of (number_of_primitive a) (NoNumber K.Convert)
-less_than (V.Object o) right = Refuses K.Convert
+-- the answer of a test on how one value stands to another (13.10.1)
+abbrev pub order_answer : (Ordering → Bool) → Compared → Answer
+order_answer test (Stands o) = truth (test o)
+order_answer test (NoOrder k) = Refuses k
 
--- the operators whose meaning is said so far
+-- the answer whether two values are equal, or whether they are not (13.11.1)
+abbrev pub equal_answer : Decided → Answer
+equal_answer (Decides b) = truth b
+equal_answer (Undecided k) = Refuses k
+
+abbrev pub not_equal_answer : Decided → Answer
+not_equal_answer (Decides b) = truth (not b)
+not_equal_answer (Undecided k) = Refuses k
+
+-- the operators that look at nothing but two values: all others
 abbrev pub has_answer : BinaryOperator → Bool
-has_answer Add = true
-has_answer Subtract = true
-has_answer LessThan = true
-has_answer _ = false
+has_answer In = false
+has_answer InstanceOf = false
+has_answer _ = true
 
--- what stands for the answer of the other operators, and means nothing
+-- what stands for the answer of `in` and `instanceof`, which look into the heap, and means nothing
 abbrev pub unsaid : Answer
 unsaid = Gives P.Undefined
 
--- a binary operator of two values (13.15.3, 13.10.1)
+-- a binary operator of two values
 abbrev pub binary : BinaryOperator → Value → Value → Answer
 binary Add left right = add left right
-binary Subtract left right = subtract left right
-binary LessThan left right = less_than left right
-binary _ left right = unsaid
+binary LessThan left right = order_answer is_lt (compare_values left right)
+binary GreaterThan left right = order_answer is_gt (compare_values left right)
+binary LessThanOrEqual left right = order_answer is_le (compare_values left right)
+binary GreaterThanOrEqual left right = order_answer is_ge (compare_values left right)
+binary Equal left right = equal_answer (loosely_equal left right)
+binary NotEqual left right = not_equal_answer (loosely_equal left right)
+binary StrictEqual left right = truth (strictly_equal left right)
+binary StrictNotEqual left right = truth (not (strictly_equal left right))
+binary In left right = unsaid
+binary InstanceOf left right = unsaid
+binary operator left right = numeric operator (to_number left) (to_number right)

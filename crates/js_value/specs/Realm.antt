@@ -7,9 +7,11 @@ use Rattle.js_value.specs.declared.value.Primitive.TheVariants as primitive
 use Rattle.js_value.specs.declared.error_kind.ErrorKind.{ErrorKind}
 use Rattle.js_value.specs.declared.error_kind.ErrorKind.TheVariants as error
 use Rattle.js_value.specs.declared.built_in.BuiltIn.{BuiltIn}
+use Rattle.js_value.specs.declared.built_in.BuiltIn.TheVariants.{Constructor}
+use Rattle.js_value.specs.declared.built_in.Constructor.TheVariants.{Error}
 use Rattle.js_value.specs.declared.built_in.Place.{Place}
 use Rattle.js_value.specs.declared.built_in.Place.TheVariants as place
-use Rattle.js_value.specs.declared.built_in.TheConstants.{PLACES, FUNCTIONS, PROTOTYPES, BUILT_INS, CONSTRUCTORS, ERRORS}
+use Rattle.js_value.specs.declared.built_in.TheConstants.{PLACES, FUNCTIONS, PROTOTYPES, BUILT_INS, CONSTRUCTORS, ERRORS, NAMED_OBJECTS}
 use Rattle.js_value.specs.State as state
 use Rattle.js_value.specs.State.{Plain, Property, Heap, Binding, Store}
 use Rattle.js_value.specs.Objects.{next_object, new_object, define, freeze}
@@ -17,7 +19,7 @@ use Rattle.js_value.specs.Environments.{new_environment, declare}
 
 -- Places
 
--- the number of a built-in object: each prototype before what inherits from it
+-- the number of a built-in object: each prototype before what inherits from it, and the functions in the order of their table
 abbrev pub number_of : Place → ℕ
 number_of place.ObjectPrototype = 0
 number_of place.Global = 1
@@ -27,6 +29,22 @@ number_of place.TypeErrorPrototype = 4
 number_of place.RangeErrorPrototype = 5
 number_of place.ReferenceErrorPrototype = 6
 number_of place.SyntaxErrorPrototype = 7
+number_of place.ArrayPrototype = 8
+number_of place.StringPrototype = 9
+number_of place.NumberPrototype = 10
+number_of place.BooleanPrototype = 11
+number_of place.RegExpPrototype = 12
+number_of place.Math = 13
+number_of place.Object = 14
+number_of place.Array = 15
+number_of place.String = 16
+number_of place.Number = 17
+number_of place.Boolean = 18
+number_of place.Error = 19
+number_of place.TypeError = 20
+number_of place.RangeError = 21
+number_of place.ReferenceError = 22
+number_of place.SyntaxError = 23
 
 -- 20.5.3 and 20.5.6.3
 abbrev pub error_prototype : ErrorKind → Place
@@ -67,8 +85,14 @@ rows = map row_of BUILT_INS
 abbrev pub named_error : Place × Listed → Place × List ℕ
 named_error e = (e.0, e.1.now)
 
+abbrev pub named_object : Listed × Place → List ℕ × Place
+named_object e = (e.0.now, e.1)
+
 unfoldable pub named_errors : List (Place × List ℕ)
 named_errors = map named_error ERRORS
+
+unfoldable pub named_objects : List (List ℕ × Place)
+named_objects = map named_object NAMED_OBJECTS
 
 -- Values and properties
 
@@ -100,17 +124,27 @@ each step n (x ∷ xs) h = each step (suc n) xs (step n x h)
 abbrev pub make_object : ℕ → Place × Option Place → Heap → Heap
 make_object n row h = new_object Plain (option_map number_of row.1) h
 
--- 10.3.3: a function without properties, and one with its length and its name
-abbrev pub plain_function : ℕ → Heap → Heap
-plain_function n h = new_object (state.BuiltIn n) (Some (number_of place.FunctionPrototype)) h
+-- 20.5.6.2: the errors of a kind inherit from `Error`
+abbrev pub parent_of_error : ErrorKind → Place
+parent_of_error error.Error = place.FunctionPrototype
+parent_of_error _ = place.Error
 
-abbrev pub function_made : ℕ → List ℕ → ℕ → Heap → Heap
-function_made n name length h =
+-- what a built-in function inherits from (10.3 and 20.5.6.2)
+abbrev pub parent_of : BuiltIn → Place
+parent_of (Constructor (Error k)) = parent_of_error k
+parent_of _ = place.FunctionPrototype
+
+-- 10.3.4: a function without properties, and one with its length and its name
+abbrev pub plain_function : Place → ℕ → Heap → Heap
+plain_function parent n h = new_object (state.BuiltIn n) (Some (number_of parent)) h
+
+abbrev pub function_made : Place → ℕ → List ℕ → ℕ → Heap → Heap
+function_made parent n name length h =
     define (next_object h) (fixed (codes "name") (text name))
-    (define (next_object h) (fixed (codes "length") (value.Primitive (primitive.Number (pos length)))) (plain_function n h))
+    (define (next_object h) (fixed (codes "length") (value.Primitive (primitive.Number (pos length)))) (plain_function parent n h))
 
 abbrev pub make_function : ℕ → Row → Heap → Heap
-make_function n row h = function_made n row.name row.length h
+make_function n row h = function_made (parent_of row.function) n row.name row.length h
 
 -- a function as a property of the object that holds it
 abbrev pub hold_in : ℕ → List ℕ → Option Place → Heap → Heap
@@ -163,6 +197,13 @@ name_of n name (Some holder) h = h
 abbrev pub name_function : ℕ → Row → Heap → Heap
 name_function n row h = name_of n row.name row.holder h
 
+abbrev pub object_named : List ℕ → Place → Heap → Heap
+object_named name place h = declare global_environment (constant name (object (number_of place))) h
+
+abbrev pub name_object : ℕ → List ℕ × Place → Heap → Heap
+name_object n named h = object_named named.0 named.1 h
+
+-- 19.1.4
 abbrev pub first_names : Heap → Heap
 first_names h = declare global_environment (constant (codes "undefined") undefined) (new_environment None h)
 
@@ -181,7 +222,7 @@ built_in_objects =
 
 -- the heap that stands when a program begins
 unfoldable pub opening : Heap
-opening = each name_function 0 rows (first_names (freeze_all built_in_count 0 built_in_objects))
+opening = each name_function 0 rows (each name_object 0 named_objects (first_names (freeze_all built_in_count 0 built_in_objects)))
 
 -- the opening realm
 abbrev pub realm : Store

@@ -1,6 +1,7 @@
 ghost use Rattle.std.specs.Prelude.{◌≡◌};
 
-use crate::value::{Kind, Str, Value};
+use crate::error_kind::ErrorKind;
+use crate::value::{Kind, Object, Primitive, Str, Value};
 use items::{Items, Memory};
 
 /// What the program or a built-in function did wrong: each is thrown as an error of one kind, with one
@@ -17,6 +18,28 @@ pub enum Complaint {
     NotAConstructor,
     /// A call of what is no function.
     NotAFunction,
+    /// What is undefined or null has no properties.
+    NoProperties,
+    /// An object is needed.
+    NotAnObject,
+    /// An array is needed.
+    NotAnArray,
+    /// A text is needed.
+    NotAText,
+    /// A value whose items can't be gone through.
+    NotIterable,
+    /// A property that may not be written or deleted.
+    ReadOnly,
+    /// A length of an array that is negative.
+    BadLength,
+    /// A count of repetitions that is negative.
+    BadCount,
+    /// A radix below 2 or above 36.
+    BadRadix,
+    /// A `this` of a type that the function isn't for.
+    WrongReceiver,
+    /// A file that the program doesn't have.
+    NoSuchFile,
 }
 
 /// Why a built-in function does nothing.
@@ -53,6 +76,10 @@ impl From<Memory> for Halt {
 /// What a built-in function that looks at primitive values gives.
 #[derive(Debug, Drop)]
 pub enum Datum {
+    /// A primitive value.
+    One(Primitive),
+    /// An array of texts.
+    Texts(Items<Str>),
     /// A line for the output, whose value is undefined.
     Line(Str),
 }
@@ -65,6 +92,23 @@ pub enum Deed {
     Give(Value),
     /// Writes a text and LF to the output, and gives undefined.
     Line(Str),
+    /// Makes an array of these elements.
+    MakeArray(Items<Value>),
+    /// Makes an object without properties that inherits from this one, or from none.
+    MakeObject(Option<Object>),
+    /// Makes an error of this kind, with this message.
+    MakeError(ErrorKind, Option<Str>),
+    /// Puts elements after those of an array, and gives its new length.
+    Append(Object, Items<Value>),
+    /// Leaves the first so many elements of an array, and gives a value.
+    Cut(Object, u64, Value),
+    /// Puts elements in the place of those of an array, and gives a value.
+    Replace(Object, Items<Value>, Value),
+    /// Freezes an object, and gives it.
+    Freeze(Object),
+    /// Writes to an object what the others have of their own and enumerable, one after another, and gives it; or complains
+    /// where one of these writes can't be.
+    Copy(Object, Items<Value>),
     /// A call takes the place of this one: its function, its `this` and its arguments.
     Enter(Value, Value, Items<Value>),
     /// The file of this text is required.

@@ -1,6 +1,15 @@
 ghost use Rattle.std.specs.Prelude.{◌≡◌};
 ghost use Rattle.js_value.specs.Key as spec;
 
+use crate::Str;
+
+/// A key of an object's own, and whether its property is enumerable.
+#[derive(Debug, Drop)]
+pub struct Key {
+    pub key: Str,
+    pub enumerable: bool,
+}
+
 /// The index that a key is (ECMA-262, 6.1.7): a decimal numeral below 2^32 - 1. It takes no memory.
 pub fn index_of(key: &[u16]) -> Option<u32>
     ensures { result ≡ spec.index_of key.now }

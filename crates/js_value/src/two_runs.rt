@@ -1,6 +1,6 @@
-ghost use Rattle.js_value.specs.TwoRuns.{DataRelated};
+ghost use Rattle.js_value.specs.TwoRuns.{AllBuiltInsRelated};
 
-/// In two runs whose heaps are related the built-in functions that look at no object do related deeds.
-pub fn built_ins_on_data()
-    ensures { DataRelated }
+/// In two runs whose heaps are related the built-in functions do related deeds.
+pub fn built_ins_related()
+    ensures { AllBuiltInsRelated }
 {}

@@ -1,7 +1,30 @@
 -- What a call does to one object.
+use Rattle.std.specs.Prelude.{ℕ, List, ◌++◌, Some, None, take, if◌then◌else◌}
+use Rattle.std.specs.Str.{bytes_eq}
+use Rattle.js_value.specs.declared.value.Value.{Value}
 use Rattle.js_value.specs.State as state
-use Rattle.js_value.specs.Objects.{with_property}
+use Rattle.js_value.specs.Key.{index_of}
+use Rattle.js_value.specs.Objects.{with_property, Delete, Deleted, IsFrozen, LeavesHole, deleted, delete_from, array_length}
 
 -- the object with a property defined
 abbrev pub with_defined : state.Property → state.ObjectRecord → state.ObjectRecord
 with_defined property object = record object { properties = with_property property object.properties }
+
+-- the object with more elements, and with no more than so many
+abbrev pub with_more : List Value → state.ObjectRecord → state.ObjectRecord
+with_more more object = record object { elements = object.elements ++ more }
+
+abbrev pub with_cut : ℕ → state.ObjectRecord → state.ObjectRecord
+with_cut size object = record object { elements = take size object.elements }
+
+-- the object without the properties of this key
+abbrev pub with_removed : List ℕ → state.ObjectRecord → state.ObjectRecord
+with_removed key object = record object { properties = deleted Deleted key object.properties }
+
+-- the object after a delete
+abbrev pub with_deleted : List ℕ → state.ObjectRecord → state.ObjectRecord
+with_deleted key object = record object { properties = deleted (delete_from object key) key object.properties }
+
+-- what a delete of an own property answers, of an array that isn't frozen
+abbrev pub array_delete : List ℕ → Delete
+array_delete key = if bytes_eq key array_length then IsFrozen else (elim (index_of key) [ None ↦ Deleted | Some _ ↦ LeavesHole ])

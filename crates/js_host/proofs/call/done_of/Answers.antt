@@ -1,18 +1,18 @@
-use Rattle.std.proofs.Common.{Option, subst, sym, ap}
+use Rattle.std.proofs.Common.{◌≡◌, Option, subst, sym, ap, ◌∙◌}
 use Rattle.js_value.specs.declared.built_in.BuiltIn.{BuiltIn}
 use Rattle.js_value.specs.Realm as realm
 use Rattle.js_value.specs.Host.{done_of}
 use Rattle.js_heap.specs.Heap.{heap_of}
-use Rattle.js_host.specs.private.Does.{Does}
+use Rattle.js_data.specs.Does.{Does}
 use Rattle.js_host.proofs.call.done_of.Goals as goal
 
-pub returns-in-Some : goal.returns-in-Some
+pub returns-in-Some-clause-does : goal.returns-in-Some-clause-does
 unfolding realm.rows
-returns-in-Some c =
+returns-in-Some-clause-does c =
     subst (λ (o : Option BuiltIn). Does (done_of o c.args.constructing c.args.this.now c.args.arguments.now (heap_of c.args.heap.now)) c.done_by.result)
-    c.in-Some.ensures c.done_by.ensures
+    c.in-Some.ensures c.done_by.ensures.does
 
-pub returns-in-None : goal.returns-in-None
+pub returns-in-None-clause-does : goal.returns-in-None-clause-does
 unfolding realm.rows
-returns-in-None c =
+returns-in-None-clause-does c =
     ap (λ (o : Option BuiltIn). done_of o c.args.constructing c.args.this.now c.args.arguments.now (heap_of c.args.heap.now)) (sym c.in-None.ensures)

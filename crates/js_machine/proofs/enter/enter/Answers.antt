@@ -1,21 +1,21 @@
-use Rattle.std.proofs.Common.{refl, ap, ◌∙◌, false}
-use Rattle.js_value.specs.Host.{native_of, native_heap}
-use Rattle.js_heap.specs.Heap.{heap_of}
-use Rattle.js_machine.proofs.Natives.{built_in_entered, native_heap-same}
-use Rattle.js_machine.proofs.Kept.{errors_kept}
+use Rattle.std.proofs.Common.{None, sym, subst}
+use Rattle.std.proofs.lemmas.Result.{IfOk-weaker}
+use Rattle.js_meaning.specs.Files.{inside, call_native}
+use Rattle.js_machine.specs.private.Config.{view_of, entry_of, step_comp}
+use Rattle.js_machine.specs.private.State.{store_in, Becomes}
 use Rattle.js_machine.proofs.enter.enter.Goals as goal
 
 pub returns-in-CallBuiltIn : goal.returns-in-CallBuiltIn
 returns-in-CallBuiltIn c =
-    let s = c.args.state.now in
-    let heap = c.call_native.new.heap in
-    let called = c.in_ok-native-in-CallBuiltIn in
-    let same = called.ensures.after ∙ native_heap-same c.in-CallBuiltIn.function false c.in-CallBuiltIn.this _ (heap_of s.heap) in
-    let errors = errors_kept (heap_of s.heap) (heap_of heap) (ap (λ h. h.objects) same) s.errors in
-    built_in_entered c.args.code.now c.args.entry c.in-CallBuiltIn.callee c.in-CallBuiltIn.function c.in-CallBuiltIn.this c.in-CallBuiltIn.arguments
-    s (record { heap = heap; output = s.output; errors = errors }) c.answer.new.state called.native c.answer.result c.in-CallBuiltIn.is
-    (called.ensures.answer
-    ∙ ap (λ arguments. native_of c.in-CallBuiltIn.function false c.in-CallBuiltIn.this arguments (heap_of s.heap)) c.as_slice.ensures)
-    (called.ensures.after
-    ∙ ap (λ arguments. native_heap c.in-CallBuiltIn.function false c.in-CallBuiltIn.this arguments (heap_of s.heap)) c.as_slice.ensures)
-    refl c.answer.ensures
+    let entry = c.in-CallBuiltIn in
+    IfOk-weaker c.call.result _ _
+    (λ step becomes p base.
+    let t = view_of p c.args.code.now in
+    subst
+    (λ d. Becomes (inside p (entry_of t d)) (store_in base c.args.state.now) (step_comp t step) (store_in base c.call.new.state))
+    (sym entry.is)
+    (subst
+    (λ arguments. Becomes (call_native entry.callee.index entry.function None entry.this arguments)
+    (store_in base c.args.state.now) (step_comp t step) (store_in base c.call.new.state))
+    c.as_slice.ensures (becomes entry.callee.index t base)))
+    c.call.ensures

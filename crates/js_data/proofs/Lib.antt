@@ -1,0 +1,3 @@
+pub mod Halts
+pub mod RowsLemmas
+pub mod Steps

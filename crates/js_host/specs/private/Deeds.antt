@@ -1,0 +1,41 @@
+-- What holds of a deed, and of what is read of a row.
+use Rattle.std.specs.Prelude.{◌≡◌, ℕ, ◌<◌, List, Option, Result, Ok, Err}
+use Rattle.std.specs.Option.{ForSome}
+use Rattle.std.specs.Borrow.{Bor}
+use Rattle.js_value.specs.declared.built_in.BuiltIn.{BuiltIn}
+use Rattle.js_value.specs.declared.built_in.Place.{Place}
+use Rattle.js_value.specs.declared.value.Value.{Value}
+use Rattle.js_value.specs.declared.deed.Halt.{Halt}
+use Rattle.js_value.specs.declared.deed.Halt.TheVariants.{Throw, Refuse, Memory}
+use Rattle.js_value.specs.declared.deed.Deed.{Deed}
+use Rattle.js_value.specs.declared.deed.Deed.TheVariants as deed
+use Rattle.js_value.specs.State.{Heap}
+use Rattle.js_value.specs.Objects.{next_object}
+use Rattle.js_value.specs.Realm.{Row}
+use Rattle.js_value.specs.Copying.{Copied, goes_on, stops}
+use Rattle.js_host.specs.Held.{AllHeld}
+
+-- the objects that a deed looks at are of the heap
+pub record CopyHeld (h : Heap) (o : ℕ) (vs : List Value) : Type 0 where
+  pub target : o < next_object h
+  pub sources : AllHeld h vs
+
+abbrev pub DeedHeld : Heap → Deed → Type 0
+DeedHeld h (deed.MakeObject parent) = ForSome parent (λ o. o.index < next_object h)
+DeedHeld h (deed.Append o vs) = o.index < next_object h
+DeedHeld h (deed.Cut o n v) = o.index < next_object h
+DeedHeld h (deed.Replace o vs v) = o.index < next_object h
+DeedHeld h (deed.Freeze o) = o.index < next_object h
+DeedHeld h (deed.Copy o vs) = CopyHeld h o.index vs
+DeedHeld h _ = Unit {0}
+
+-- a row of the table of functions, as the code holds it
+abbrev pub row_seen : BuiltIn × Option Place × Bor (List ℕ) × ℕ → Row
+row_seen r = record { function = r.0; holder = r.1; name = r.2.now; length = r.3 }
+
+-- the code stops as the writes do, with their heap; for memory it may want
+abbrev pub HaltsAs : Copied → Heap → Result (Unit {0}) Halt → Type 0
+HaltsAs c h (Ok u) = c ≡ goes_on h
+HaltsAs c h (Err (Throw complaint)) = c ≡ stops (Throw complaint) h
+HaltsAs c h (Err (Refuse k)) = c ≡ stops (Refuse k) h
+HaltsAs c h (Err Memory) = Unit {0}
