@@ -1,0 +1,16 @@
+use Rattle.js_reading.proofs.Reading.{complete}
+use Rattle.js_reading.proofs.Sound.{reads_only}
+use Rattle.js_reading.proofs.Unique.{one_tree, dead}
+use Rattle.js_reading.proofs.language.Goals as goal
+
+pub returns-clause-reads : goal.returns-clause-reads
+returns-clause-reads c = λ tree ts d. complete d
+
+pub returns-clause-nothing_else : goal.returns-clause-nothing_else
+returns-clause-nothing_else c = reads_only
+
+pub returns-clause-one : goal.returns-clause-one
+returns-clause-one c = λ one other ts d r. one_tree d r
+
+pub returns-clause-stops : goal.returns-clause-stops
+returns-clause-stops c = dead

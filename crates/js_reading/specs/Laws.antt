@@ -1,0 +1,22 @@
+-- What is proved of the whole language: of Sentences and Turns.
+use Rattle.std.specs.Prelude.{◌≡◌, List, Some, None}
+use Rattle.js_tree.specs.Plain.{File}
+use Rattle.js_text.specs.Token.{Token}
+use Rattle.js_reading.specs.Sentences.{Sentence, Dead}
+use Rattle.js_reading.specs.Turns.{run, tree_of, Start}
+
+-- a sentence leads to its tree
+abbrev pub ReadsEachSentence : Type 0
+ReadsEachSentence = (tree : File) (ts : List Token) → Sentence tree ts → tree_of (run Start ts) ≡ Some tree
+
+-- what it reads is a sentence for the tree
+abbrev pub ReadsNothingElse : Type 0
+ReadsNothingElse = (tree : File) (ts : List Token) → tree_of (run Start ts) ≡ Some tree → Sentence tree ts
+
+-- a list of tokens has at most one tree
+abbrev pub HasOneTree : Type 0
+HasOneTree = (one other : File) (ts : List Token) → Sentence one ts → Sentence other ts → one ≡ other
+
+-- no sentence begins with tokens that lead nowhere
+abbrev pub StopsAtDead : Type 0
+StopsAtDead = (ts : List Token) → run Start ts ≡ None → Dead ts

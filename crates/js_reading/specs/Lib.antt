@@ -1,0 +1,11 @@
+pub mod Kinds
+pub mod Slots
+pub mod Productions
+pub mod Choices
+pub mod Makes
+pub mod Outside
+pub mod Sentences
+pub mod Turns
+pub mod Unsupported
+pub mod Open
+pub mod Laws
