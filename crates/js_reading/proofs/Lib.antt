@@ -19,3 +19,5 @@ pub mod Places
 pub mod Passing
 pub mod Having
 pub mod Sound
+pub mod Heights
+pub mod Floors

@@ -126,7 +126,7 @@ turn_sound t (item_next fr) h = next_item t fr h
 turn_sound t not_begun h = file_sound t h
 turn_sound t (at_end s) h = absurd cc
 
-stepped : {A : Type 0} (o : Option Config) (go : Config → Option Config) (d : Config) → ((x : Config) → o ≡ Some x → go x ≡ Some d → A) → then_run o go ≡ Some d → A
+pub stepped : {A : Type 0} (o : Option Config) (go : Config → Option Config) (d : Config) → ((x : Config) → o ≡ Some x → go x ≡ Some d → A) → then_run o go ≡ Some d → A
 stepped None go d f h = absurd cc
 stepped (Some x) go d f h = f x refl h
 

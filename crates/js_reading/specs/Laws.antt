@@ -1,9 +1,11 @@
--- What is proved of the whole language: of Sentences and Turns.
-use Rattle.std.specs.Prelude.{◌≡◌, List, Some, None}
+-- What is proved of the whole language: of `Sentences`, `Turns` and `Open`.
+use Rattle.std.specs.Prelude.{◌≡◌, ◌≤◌, List, ◌++◌, Some, None}
 use Rattle.js_tree.specs.Plain.{File}
+use Rattle.js_tree.specs.Height.{height_file}
 use Rattle.js_text.specs.Token.{Token}
 use Rattle.js_reading.specs.Sentences.{Sentence, Dead}
-use Rattle.js_reading.specs.Turns.{run, tree_of, Start}
+use Rattle.js_reading.specs.Turns.{Config, run, tree_of, Start}
+use Rattle.js_reading.specs.Open.{floor}
 
 -- a sentence leads to its tree
 abbrev pub ReadsEachSentence : Type 0
@@ -20,3 +22,7 @@ HasOneTree = (one other : File) (ts : List Token) → Sentence one ts → Senten
 -- no sentence begins with tokens that lead nowhere
 abbrev pub StopsAtDead : Type 0
 StopsAtDead = (ts : List Token) → run Start ts ≡ None → Dead ts
+
+-- no tree whose tokens begin so is lower than what the place after them counts
+abbrev pub CountsTrees : Type 0
+CountsTrees = (ts us : List Token) (c : Config) (tree : File) → run Start ts ≡ Some c → Sentence tree (ts ++ us) → floor c ≤ height_file tree

@@ -195,12 +195,12 @@ maybe Missing = Some none_expr
 maybe (AnExpr i e) = Some (some_expr e)
 maybe p = None
 
+abbrev pub for_with : Loc → tree.ForInit → Stmt → Option MaybeExpr → Option MaybeExpr → Option Piece
+for_with l x s (Some y) (Some z) = Some (AStmt (tree.For (Some l) x y z s))
+for_with l x s y z = None
+
 abbrev pub for_of : Loc → tree.ForInit → List Piece → Option Piece
-for_of l x (p ∷ q ∷ AStmt s ∷ []) = parts (maybe p) (maybe q)
-  where
-    parts : Option MaybeExpr → Option MaybeExpr → Option Piece
-    parts (Some y) (Some z) = Some (AStmt (tree.For (Some l) x y z s))
-    parts y z = None
+for_of l x (p ∷ q ∷ AStmt s ∷ []) = for_with l x s (maybe p) (maybe q)
 for_of l x ps = None
 
 abbrev pub for_declared : Loc → VariableKind → Option (tree.Declarators × List Piece) → Option Piece
@@ -229,19 +229,16 @@ abbrev pub one_more_property : tree.Property → Option tree.Properties → Opti
 one_more_property p None = None
 one_more_property p (Some ps) = Some (tree.more_property p ps)
 
+-- one more parameter of a method
+abbrev pub method_param : tree.Param → Option (tree.Function × Loc × List Piece) → Option (tree.Function × Loc × List Piece)
+method_param p None = None
+method_param p (Some (tree.MakeFunction n xs body, m, rest)) = Some (tree.MakeFunction n (tree.more_param p xs) body, m, rest)
+
 -- the pieces of a method up to its `}`, and those after it
 abbrev pub method_of : List Piece → Option (tree.Function × Loc × List Piece)
 method_of (APlace l ∷ TheStmts ss ∷ APlace m ∷ ps) = Some (tree.MakeFunction 0 tree.no_param (tree.MakeFunctionBody (Some (through l m)) (with_directives ss)), m, ps)
-method_of (AWord w l ∷ Missing ∷ ps) = again (tree.MakeParam (Some l) (bound w l) none_expr) (method_of ps)
-  where
-    again : tree.Param → Option (tree.Function × Loc × List Piece) → Option (tree.Function × Loc × List Piece)
-    again p (Some (tree.MakeFunction n xs body, m, rest)) = Some (tree.MakeFunction n (tree.more_param p xs) body, m, rest)
-    again p None = None
-method_of (AWord w l ∷ AnExpr i e ∷ APlace m ∷ ps) = again (tree.MakeParam (Some (through l m)) (bound w l) (some_expr e)) (method_of ps)
-  where
-    again : tree.Param → Option (tree.Function × Loc × List Piece) → Option (tree.Function × Loc × List Piece)
-    again p (Some (tree.MakeFunction n xs body, m, rest)) = Some (tree.MakeFunction n (tree.more_param p xs) body, m, rest)
-    again p None = None
+method_of (AWord w l ∷ Missing ∷ ps) = method_param (tree.MakeParam (Some l) (bound w l) none_expr) (method_of ps)
+method_of (AWord w l ∷ AnExpr i e ∷ APlace m ∷ ps) = method_param (tree.MakeParam (Some (through l m)) (bound w l) (some_expr e)) (method_of ps)
 method_of ps = None
 
 -- a property after its key, and the pieces after it
@@ -274,13 +271,13 @@ abbrev pub object_of : Loc → Option tree.Properties → Option Piece
 object_of l None = None
 object_of l (Some ps) = Some (AnExpr primary (tree.ObjectLiteral (Some l) ps))
 
+abbrev pub one_more_part : tree.TemplatePart → Option tree.TemplateParts → Option tree.TemplateParts
+one_more_part p None = None
+one_more_part p (Some xs) = Some (tree.more_template_part p xs)
+
 abbrev pub template_parts : List Piece → Option tree.TemplateParts
 template_parts [] = Some tree.no_template_part
-template_parts (AnExpr i e ∷ AText s ∷ ps) = more (template_parts ps)
-  where
-    more : Option tree.TemplateParts → Option tree.TemplateParts
-    more None = None
-    more (Some xs) = Some (tree.more_template_part (tree.MakeTemplatePart e s) xs)
+template_parts (AnExpr i e ∷ AText s ∷ ps) = one_more_part (tree.MakeTemplatePart e s) (template_parts ps)
 template_parts ps = None
 
 abbrev pub template_of : Loc → Spelled → Option tree.TemplateParts → Option Piece

@@ -75,11 +75,13 @@ abbrev pub lift : Frame → ℕ → ℕ
 lift (InForm f w s ss ps) h = max (heights ps) h + 1
 lift (InExpression w) h = h + 1
 lift (InStmts f w ss ps xs) h = max (heights ps) (max (height_stmts xs) h) + 1
-lift (InFile xs) h = max (height_stmts xs) h
+lift (InFile xs) h = h
 lift (InItems f w p ss ps xs) h = max (heights ps) (max (height_exprs xs) h) + 1
 
+-- nothing stands below a file
 abbrev pub up : List Frame → ℕ → ℕ
 up [] h = h
+up (InFile xs ∷ fs) h = max (height_stmts xs) h
 up (f ∷ fs) h = up fs (lift f h)
 
 abbrev pub floor : Config → ℕ

@@ -1,3 +1,4 @@
+use Rattle.js_reading.proofs.Floors.{low}
 use Rattle.js_reading.proofs.Reading.{complete}
 use Rattle.js_reading.proofs.Sound.{reads_only}
 use Rattle.js_reading.proofs.Unique.{one_tree, dead}
@@ -14,3 +15,6 @@ returns-clause-one c = λ one other ts d r. one_tree d r
 
 pub returns-clause-stops : goal.returns-clause-stops
 returns-clause-stops c = dead
+
+pub returns-clause-counts : goal.returns-clause-counts
+returns-clause-counts c = low
