@@ -13,12 +13,12 @@ use Rattle.js_text.specs.Level.{any, assignment, binary_level}
 use Rattle.js_text.specs.Grammar.{through}
 use Rattle.js_reading.specs.Slots.{Piece, AnExpr, AStmt, TheStmts, TheExprs, AWord, AText, Missing, Form}
 use Rattle.js_reading.specs.Slots as slot
-use Rattle.js_reading.specs.Productions.{member, call, member_level, prefix, prefixes, join, joins, as_it_is, after_first}
+use Rattle.js_reading.specs.Productions.{member, call, member_level}
 use Rattle.js_reading.specs.Makes.{build, is_target, is_and_or, arrow_of, params_of, concise, expression_of, object_of, properties_of, length_of, template_of, template_parts, function_of}
 use Rattle.js_reading.specs.Sentences
 use Rattle.js_reading.specs.Sentences.{Spells}
-use Rattle.js_reading.proofs.Shapes.{find_all, join_found}
 use Rattle.js_reading.proofs.Makings.{is_first, is_join}
+use Rattle.js_reading.proofs.Tightness.{is_first_form, is_join_form}
 
 abbrev pub Leveled : Option Piece → Type 0
 Leveled (Some (AnExpr i e)) = any ≤ i
@@ -86,12 +86,6 @@ levels_made slot.ArrowOfName l ps is = tt
 levels_made slot.Comma l (AnExpr i x ∷ AnExpr j y ∷ []) is = omega arith
 levels_made slot.Comma l ps is = tt
 levels_made f l ps is = absurd (true≢false (sym is))
-
-is_first_form : (t : Token) (f : Form) → prefix t ≡ Some f → (is_first f || is_join f) ≡ true
-is_first_form t f h = (find_all (λ g. is_first g || is_join g) as_it_is prefixes t f refl h).0
-
-is_join_form : (t : Token) (f : Form) → join t ≡ Some f → (is_first f || is_join f) ≡ true
-is_join_form t f h = (find_all (λ g. is_first g || is_join g) after_first joins t f refl (join_found t f h)).0
 
 pub some_level : {i : ℕ} {e : Expr} {l : Loc} {ts : List Token} {next : Token} → Spells (AnExpr i e) l ts next → any ≤ i
 some_level (Sentences.leaf t none is) = omega arith

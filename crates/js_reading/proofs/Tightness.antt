@@ -60,10 +60,10 @@ leaf_made (T.NoSubstitutionTemplate w) l = (refl, refl)
 leaf_made (T.RegularExpression w) l = (refl, refl)
 leaf_made k l = tt
 
-is_first_form : (t : Token) (f : Form) → prefix t ≡ Some f → (is_first f || is_join f) ≡ true
+pub is_first_form : (t : Token) (f : Form) → prefix t ≡ Some f → (is_first f || is_join f) ≡ true
 is_first_form t f h = (find_all (λ g. is_first g || is_join g) as_it_is prefixes t f refl h).0
 
-is_join_form : (t : Token) (f : Form) → join t ≡ Some f → (is_first f || is_join f) ≡ true
+pub is_join_form : (t : Token) (f : Form) → join t ≡ Some f → (is_first f || is_join f) ≡ true
 is_join_form t f h = (find_all (λ g. is_first g || is_join g) after_first joins t f refl (join_found t f h)).0
 
 -- what binds as tightly as an update has no bare `in`
