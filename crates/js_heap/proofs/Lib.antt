@@ -1,7 +1,7 @@
 pub mod Lists
 pub mod ObjectLemmas
-pub mod Older
 pub mod Outcomes
 pub mod Chains
 pub mod WriteLemmas
 pub mod KeysLemmas
+pub mod NameLemmas

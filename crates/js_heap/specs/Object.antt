@@ -1,9 +1,8 @@
 -- What the definition of a program's store sees in an object of the heap.
-use Rattle.std.specs.Prelude.{ℕ, suc, ◌≤◌, List, map, Option, None, Some, option_map, slice_index_or}
+use Rattle.std.specs.Prelude.{ℕ, List, map, option_map}
 use Rattle.js_value.specs.declared.value.Value.{Value}
 use Rattle.js_value.specs.State as state
 use Rattle.js_value.specs.Objects as objects
-use Rattle.js_value.specs.Objects.{no_object}
 use Rattle.js_heap.specs.declared.delete.Delete.{Delete}
 use Rattle.js_heap.specs.declared.delete.Delete.TheVariants as delete
 use Rattle.js_heap.specs.declared.write.Set.{Set}
@@ -13,6 +12,7 @@ use Rattle.js_heap.specs.declared.object.ObjectKind.TheVariants.{Plain, Array, E
 use Rattle.js_heap.specs.declared.object.Flags.{Flags}
 use Rattle.js_heap.specs.declared.object.Property.{Property}
 use Rattle.js_heap.specs.declared.object.ObjectRecord.{ObjectRecord}
+use Rattle.js_heap.specs.declared.properties.Properties.{Properties}
 
 abbrev pub plain_kind : ObjectKind → state.ObjectKind
 plain_kind Plain = state.Plain
@@ -34,13 +34,16 @@ property_with key v flags = record {
 abbrev pub plain_property : Property → state.Property
 plain_property property = property_with property.key property.value property.flags
 
+abbrev pub plain_properties : Properties → List state.Property
+plain_properties properties = map plain_property properties.items.items
+
 abbrev pub plain_object : ObjectRecord → state.ObjectRecord
 plain_object object = record {
   kind = plain_kind object.kind;
   prototype = option_map (λ prototype. prototype.index) object.prototype;
   frozen = object.frozen;
   elements = object.elements.items.items;
-  properties = map plain_property object.properties.items;
+  properties = plain_properties object.properties;
 }
 
 abbrev pub plain_set : Set → objects.Set
@@ -53,12 +56,3 @@ abbrev pub plain_delete : Delete → objects.Delete
 plain_delete delete.Done = objects.Deleted
 plain_delete delete.Frozen = objects.IsFrozen
 plain_delete delete.Sparse = objects.LeavesHole
-
--- as many as there can be in a chain that begins with this one, where each is older than the one before
-abbrev pub reach_of : Option ℕ → ℕ
-reach_of None = 0
-reach_of (Some n) = suc n
-
--- each prototype is older than what inherits from it
-abbrev pub PrototypesAreOlder : List state.ObjectRecord → Type 0
-PrototypesAreOlder objects = (o : ℕ) → reach_of (slice_index_or objects o no_object).prototype ≤ o

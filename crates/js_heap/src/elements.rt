@@ -6,7 +6,7 @@ use js_value::{Primitive, Value};
 use std::alloc::{AllocError, Global};
 
 /// The elements of an array, with their number as a value, which can be lent.
-#[derive(Debug, Drop)]
+#[derive(Drop)]
 pub struct Elements {
     pub(crate) items: Vec<Value>,
     pub(crate) count: Value,

@@ -1,6 +1,8 @@
-ghost use Rattle.std.specs.Prelude.{map};
-ghost use Rattle.js_heap.specs.Object.{plain_object, PrototypesAreOlder};
-ghost use Rattle.js_heap.specs.Environment.{plain_environment, OutersAreOlder};
+ghost use Rattle.std.specs.Prelude.{◌≡◌};
+ghost use Rattle.js_value.specs.Objects.{no_object};
+ghost use Rattle.js_value.specs.Environments.{no_environment};
+ghost use Rattle.js_heap.specs.Object.{plain_object};
+ghost use Rattle.js_heap.specs.Environment.{plain_environment};
 
 use crate::elements::Elements;
 use crate::environment::{Binding, Environment};
@@ -12,14 +14,16 @@ use js_value::{Key, Object, Str, Value};
 use std::alloc::Global;
 
 /// The objects and environments of a running program, each numbered in the order in which they
-/// were made.
-#[derive(Debug)]
+/// were made. A reference to none of them is to an object of nothing, or an environment of nothing:
+/// that is what is found there, and a change of it changes nothing.
 pub struct Heap {
     alloc: Global,
     objects: Vec<ObjectRecord>,
     environments: Vec<Environment>,
-    ghost prototypes: { PrototypesAreOlder (map plain_object objects.items) },
-    ghost outers: { OutersAreOlder (map plain_environment environments.items) },
+    nothing: ObjectRecord,
+    nowhere: Environment,
+    ghost plain_nothing: { plain_object nothing ≡ no_object },
+    ghost plain_nowhere: { plain_environment nowhere ≡ no_environment },
 }
 
 impl Drop for Heap {
@@ -29,23 +33,28 @@ impl Drop for Heap {
             alloc: _,
             objects,
             environments,
+            nothing,
+            nowhere,
         } = self;
         drop(objects);
         drop(environments);
+        drop(nothing);
+        drop(nowhere);
     }
 }
 
 impl Heap {
-    ghost use Rattle.std.specs.Prelude.{◌≡◌, ◌↔◌, IsTrue, [], false, IfOk, IfSome, OnOk, OnErr, None, option_map, length};
-    ghost use Rattle.std.specs.Option.{ForSome, option_copied};
+    ghost use Rattle.std.specs.Prelude.{◌≡◌, [], IfOk, OnOk, OnErr, None, option_map, length};
+    ghost use Rattle.std.specs.Option.{option_copied};
     ghost use Rattle.js_value.specs.Objects.{object_at, kind_of, next_object, new_object, new_array, own, found, get, keys, define, freeze, elements_of, with_elements, append, cut, set, set_answer, delete, delete_answer};
     ghost use Rattle.js_value.specs.Texts.{own_of_text, keys_of_text, get_of_text, delete_of_text};
-    ghost use Rattle.js_value.specs.Environments.{environment_at, next_environment, new_environment, declare, lookup, binding_at, value_of, init, assign, assign_answer};
-    ghost use Rattle.js_heap.specs.Object.{plain_kind, plain_set, plain_delete, property_with, reach_of};
-    ghost use Rattle.js_heap.specs.Environment.{plain_binding, plain_cell, plain_assign};
+    ghost use Rattle.js_value.specs.Environments.{environment_at, place_of, next_environment, new_environment, declare, lookup, value_of, init, assign, assign_answer};
+    ghost use Rattle.js_heap.specs.Object.{plain_kind, plain_set, plain_delete, property_with};
+    ghost use Rattle.js_heap.specs.Environment.{plain_cell, plain_assign};
     ghost use Rattle.js_value.specs.Realm.{empty_heap};
-    ghost use Rattle.js_heap.specs.private.Write.{bars, seen_of, chain_found};
-    ghost use Rattle.js_heap.specs.Heap.{heap_of, HoldsObject, HoldsEnvironment, HoldsCell, is_of_array};
+    ghost use Rattle.js_heap.specs.private.Write.{bars, seen_of};
+    ghost use Rattle.js_heap.specs.private.Environment.{cell_at};
+    ghost use Rattle.js_heap.specs.Heap.{heap_of};
 
     /// A heap of nothing, which takes no memory. What is made later is kept on the allocator.
     pub fn new(alloc: Global) -> Heap
@@ -55,32 +64,27 @@ impl Heap {
             alloc,
             objects: Vec::new(alloc),
             environments: Vec::new(alloc),
+            nothing: ObjectRecord::new(alloc, ObjectKind::Plain, None),
+            nowhere: Environment::new(alloc, None),
         }
     }
 
     /// Makes an object that inherits from `prototype` and has no properties (ECMA-262, 10.1.12). On
     /// want of memory nothing changes.
     pub fn object(&mut self, kind: ObjectKind, prototype: Option<Object>) -> Result<Object, Memory>
-        requires { ForSome prototype (λ o. HoldsObject (heap_of self.old) o.index) }
         ensures ok { OnOk result (heap_of self.new
             ≡ new_object (plain_kind kind) (option_map (λ o. o.index) prototype) (heap_of self.old)) }
         ensures object { IfOk result (λ made. made.index ≡ next_object (heap_of self.old)) }
         ensures err { OnErr result (heap_of self.new ≡ heap_of self.old) }
     {
         let made = Object::at(self.objects.len() as u64);
-        self.objects.push(ObjectRecord {
-            kind,
-            prototype,
-            frozen: false,
-            elements: Elements::none(self.alloc),
-            properties: Vec::new(self.alloc),
-        })?;
+        self.objects
+            .push(ObjectRecord::new(self.alloc, kind, prototype))?;
         Ok(made)
     }
 
     /// Makes an array of no elements (10.4.2.2). On want of memory nothing changes.
     pub fn array(&mut self, prototype: Object) -> Result<Object, Memory>
-        requires { HoldsObject (heap_of self.old) prototype.index }
         ensures ok { OnOk result (heap_of self.new
             ≡ new_array prototype.index [] (heap_of self.old)) }
         ensures object { IfOk result (λ made. made.index ≡ next_object (heap_of self.old)) }
@@ -92,7 +96,6 @@ impl Heap {
 
     /// Makes an array of these elements. On want of memory nothing changes.
     pub fn array_of(&mut self, prototype: Object, elements: Items<Value>) -> Result<Object, Memory>
-        requires { HoldsObject (heap_of self.old) prototype.index }
         ensures ok { OnOk result (heap_of self.new
             ≡ new_array prototype.index elements (heap_of self.old)) }
         ensures object { IfOk result (λ made. made.index ≡ next_object (heap_of self.old)) }
@@ -100,19 +103,14 @@ impl Heap {
     {
         let made = Object::at(self.objects.len() as u64);
         let elements = Elements::new(elements)?;
-        self.objects.push(ObjectRecord {
-            kind: ObjectKind::Array,
-            prototype: Some(prototype),
-            frozen: false,
-            elements,
-            properties: Vec::new(self.alloc),
-        })?;
+        let mut record = ObjectRecord::new(self.alloc, ObjectKind::Array, Some(prototype));
+        record.elements = elements;
+        self.objects.push(record)?;
         Ok(made)
     }
 
     /// The elements of an array, lent; another object has none.
     pub fn elements(&self, object: Object) -> &[Value]
-        requires { HoldsObject (heap_of self.now) object.index }
         ensures { result.now ≡ elements_of (heap_of self.now) object.index }
     {
         self.record(object).elements.as_slice()
@@ -120,39 +118,40 @@ impl Heap {
 
     /// Puts more elements after those of an array. On want of memory nothing changes.
     pub fn append(&mut self, object: Object, more: Items<Value>) -> Result<(), Memory>
-        requires { HoldsObject (heap_of self.old) object.index }
         ensures ok { OnOk result (heap_of self.new
             ≡ append object.index more (heap_of self.old)) }
         ensures err { OnErr result (heap_of self.new ≡ heap_of self.old) }
     {
-        let record = &mut self.objects[object.index() as usize];
-        record.append(more)
+        match self.objects.get_mut(object.index() as usize) {
+            Some(record) => record.append(more),
+            None => Ok(()),
+        }
     }
 
     /// Leaves the first so many elements of an array, and no others. It takes no memory.
     pub fn cut(&mut self, object: Object, size: usize)
-        requires { HoldsObject (heap_of self.old) object.index }
         ensures { heap_of self.new ≡ cut object.index size (heap_of self.old) }
     {
-        let record = &mut self.objects[object.index() as usize];
-        record.cut(size);
+        if let Some(record) = self.objects.get_mut(object.index() as usize) {
+            record.cut(size);
+        }
     }
 
     /// Puts elements in the place of those of an array. On want of memory nothing changes.
     pub fn replace(&mut self, object: Object, elements: Items<Value>) -> Result<(), Memory>
-        requires { HoldsObject (heap_of self.old) object.index }
         ensures ok { OnOk result (heap_of self.new
             ≡ with_elements object.index elements (heap_of self.old)) }
         ensures err { OnErr result (heap_of self.new ≡ heap_of self.old) }
     {
         let elements = Elements::new(elements)?;
-        let record = &mut self.objects[object.index() as usize];
-        record.elements = elements;
+        if let Some(record) = self.objects.get_mut(object.index() as usize) {
+            record.elements = elements;
+        }
         Ok(())
     }
 
     /// Defines the object's own property of this name, and its flags (10.1.6). On want of memory
-    /// nothing changes. It is not for an array's elements and length.
+    /// nothing changes. An array's elements and length are not among what it defines.
     pub fn define(
         &mut self,
         object: Object,
@@ -160,31 +159,30 @@ impl Heap {
         value: Value,
         flags: Flags,
     ) -> Result<(), Memory>
-        requires object { HoldsObject (heap_of self.old) object.index }
-        requires name { is_of_array (kind_of (heap_of self.old) object.index) name.now ≡ false }
         ensures ok { OnOk result (heap_of self.new
             ≡ define object.index (property_with name.now value flags) (heap_of self.old)) }
         ensures err { OnErr result (heap_of self.new ≡ heap_of self.old) }
     {
         let key = name.copy()?;
-        let record = &mut self.objects[object.index() as usize];
-        record.define(Property { key, value, flags })
+        match self.objects.get_mut(object.index() as usize) {
+            Some(record) => record.define(Property { key, value, flags }),
+            None => Ok(()),
+        }
     }
 
     /// Freezes the object (20.1.2.6): none of its properties may be written any more, and it gets no
     /// new ones.
     pub fn freeze(&mut self, object: Object)
-        requires { HoldsObject (heap_of self.old) object.index }
         ensures { heap_of self.new ≡ freeze object.index (heap_of self.old) }
     {
-        let record = &mut self.objects[object.index() as usize];
-        record.frozen = true;
+        if let Some(record) = self.objects.get_mut(object.index() as usize) {
+            record.frozen = true;
+        }
     }
 
     /// Writes the object's property of this name (10.1.9, and 10.4.2.1 of an array). On want of
     /// memory nothing changes. A length is a number: what else is given is no length (`BadLength`).
     pub fn set(&mut self, object: Object, name: &Str, value: Value) -> Result<Set, Memory>
-        requires { HoldsObject (heap_of self.old) object.index }
         ensures answer { IfOk result (λ answer. plain_set answer
             ≡ set_answer (heap_of self.old) object.index name.now value) }
         ensures ok { OnOk result (heap_of self.new
@@ -192,24 +190,26 @@ impl Heap {
         ensures err { OnErr result (heap_of self.new ≡ heap_of self.old) }
     {
         let barred = self.bars(object, name);
-        let record = &mut self.objects[object.index() as usize];
-        record.set(name, value, barred)
+        match self.objects.get_mut(object.index() as usize) {
+            Some(record) => record.set(name, value, barred),
+            None => Ok(Set::Done),
+        }
     }
 
     /// Deletes the object's own property of this name (10.1.10). It takes no memory.
     pub fn delete(&mut self, object: Object, name: &Str) -> Delete
-        requires { HoldsObject (heap_of self.old) object.index }
         ensures answer { plain_delete result
             ≡ delete_answer (heap_of self.old) object.index name.now }
         ensures after { heap_of self.new ≡ delete object.index name.now (heap_of self.old) }
     {
-        let record = &mut self.objects[object.index() as usize];
-        record.delete(name)
+        match self.objects.get_mut(object.index() as usize) {
+            Some(record) => record.delete(name),
+            None => Delete::Done,
+        }
     }
 
     /// The object's own keys (10.1.11), each with whether it is enumerable, or want of memory.
     pub fn keys(&self, object: Object) -> Result<Items<Key>, Memory>
-        requires { HoldsObject (heap_of self.now) object.index }
         ensures { IfOk result (λ found. found ≡ keys (heap_of self.now) object.index) }
     {
         keys::keys_of(self.alloc, self.record(object))
@@ -217,7 +217,6 @@ impl Heap {
 
     /// The object's own property of this name (10.1.5): its value, lent, and its flags.
     pub fn own(&self, object: Object, name: &Str) -> Option<(&Value, Flags)>
-        requires { HoldsObject (heap_of self.now) object.index }
         ensures { option_map (λ found. property_with name.now found.0.now found.1) result
             ≡ own (heap_of self.now) object.index name.now }
     {
@@ -226,7 +225,6 @@ impl Heap {
 
     /// What the object is.
     pub fn kind(&self, object: Object) -> &ObjectKind
-        requires { HoldsObject (heap_of self.now) object.index }
         ensures { plain_kind result.now ≡ kind_of (heap_of self.now) object.index }
     {
         &self.record(object).kind
@@ -234,17 +232,14 @@ impl Heap {
 
     /// What the object inherits from (10.1.1).
     pub fn proto(&self, object: Object) -> Option<Object>
-        requires { HoldsObject (heap_of self.now) object.index }
-        ensures answer { option_map (λ o. o.index) result
+        ensures { option_map (λ o. o.index) result
             ≡ (object_at (heap_of self.now) object.index).prototype }
-        ensures held { IfSome result (λ o. HoldsObject (heap_of self.now) o.index) }
     {
         self.record(object).prototype
     }
 
     /// Whether the object is frozen.
     pub fn is_frozen(&self, object: Object) -> bool
-        requires { HoldsObject (heap_of self.now) object.index }
         ensures { result ≡ (object_at (heap_of self.now) object.index).frozen }
     {
         self.record(object).frozen
@@ -253,10 +248,12 @@ impl Heap {
     /// The value of the property of this name, lent: the object's own, or else the first along its
     /// prototypes (10.1.8).
     pub fn get(&self, object: Object, name: &Str) -> Option<&Value>
-        requires { HoldsObject (heap_of self.now) object.index }
         ensures { option_copied result ≡ get (heap_of self.now) object.index name.now }
     {
-        let (value, _) = self.found(Some(object), name)?;
+        if let Some((value, _)) = self.own(object, name) {
+            return Some(value);
+        }
+        let (value, _) = self.inherited(object, name)?;
         Some(value)
     }
 
@@ -268,7 +265,6 @@ impl Heap {
         text: &Str,
         name: &Str,
     ) -> Result<Option<Value>, Memory>
-        requires { HoldsObject (heap_of self.now) prototype.index }
         ensures { IfOk result (λ value. value
             ≡ get_of_text (heap_of self.now) prototype.index text.now name.now) }
     {
@@ -303,17 +299,14 @@ impl Heap {
     /// Makes an environment of no names inside another one, or inside none (9.1.2.2). On want of
     /// memory nothing changes.
     pub fn env(&mut self, parent: Option<Env>) -> Result<Env, Memory>
-        requires { ForSome parent (λ outer. HoldsEnvironment (heap_of self.old) outer.index) }
         ensures ok { OnOk result (heap_of self.new
             ≡ new_environment (option_map (λ outer. outer.index) parent) (heap_of self.old)) }
         ensures environment { IfOk result (λ made. made.index ≡ next_environment (heap_of self.old)) }
         ensures err { OnErr result (heap_of self.new ≡ heap_of self.old) }
     {
         let made = Env::at(self.environments.len() as u64);
-        self.environments.push(Environment {
-            outer: parent,
-            bindings: Vec::new(self.alloc),
-        })?;
+        self.environments
+            .push(Environment::new(self.alloc, parent))?;
         Ok(made)
     }
 
@@ -326,7 +319,6 @@ impl Heap {
         value: Option<Value>,
         constant: bool,
     ) -> Result<Cell, Memory>
-        requires { HoldsEnvironment (heap_of self.old) env.index }
         ensures ok { OnOk result (heap_of self.new ≡ declare env.index
             (record { name = name.now; value = value; constant = constant }) (heap_of self.old)) }
         ensures cell { IfOk result (λ cell. plain_cell cell ≡ record {
@@ -336,12 +328,15 @@ impl Heap {
         ensures err { OnErr result (heap_of self.new ≡ heap_of self.old) }
     {
         let name = Name::from_str(self.alloc, name.as_str())?;
-        let environment = &mut self.environments[env.index() as usize];
-        let place = environment.declare(Binding {
+        let binding = Binding {
             name,
             value,
             constant,
-        })?;
+        };
+        let place = match self.environments.get_mut(env.index() as usize) {
+            Some(environment) => environment.declare(binding)?,
+            None => 0,
+        };
         Ok(Cell {
             environment: env,
             place: place as u64,
@@ -350,90 +345,79 @@ impl Heap {
 
     /// The cell of this name: of the environment, or else of the first outward that has it (9.1.2.1).
     pub fn lookup(&self, env: Env, name: &Name) -> Option<Cell>
-        requires { HoldsEnvironment (heap_of self.now) env.index }
-        ensures answer { option_map plain_cell result
+        ensures { option_map plain_cell result
             ≡ lookup (heap_of self.now) env.index name.now }
-        ensures held { IfSome result (λ cell. HoldsCell (heap_of self.now) (plain_cell cell)) }
     {
-        let mut chain = Some(env);
-        while let Some(at) = chain {
-            let environment = self.environment(at);
-            if let Some(place) = environment.place_of(name) {
-                return Some(Cell {
-                    environment: at,
-                    place: place as u64,
-                });
+        if let Some(cell) = self.cell_of(env, name) {
+            return Some(cell);
+        }
+        let mut chain = self.environment(env).outer;
+        for _ in 0..env.index() {
+            let at = chain?;
+            if let Some(cell) = self.cell_of(at, name) {
+                return Some(cell);
             }
-            chain = environment.outer;
+            chain = self.environment(at).outer;
         }
         None
     }
 
     /// The value of the cell, lent, or none where it is not initialized (9.1.1.1.6).
     pub fn value_of(&self, cell: Cell) -> Option<&Value>
-        requires { HoldsCell (heap_of self.now) (plain_cell cell) }
         ensures { option_copied result ≡ value_of (heap_of self.now) (plain_cell cell) }
     {
-        self.binding(cell).value.as_ref()
+        let environment = self.environment(cell.environment);
+        let binding = environment.bindings.items.get(cell.place as usize)?;
+        binding.value.as_ref()
     }
 
-    /// Gives a cell that is not initialized its first value (9.1.1.1.4).
+    /// Gives the cell its first value (9.1.1.1.4).
     pub fn init(&mut self, cell: Cell, value: Value)
-        requires cell { HoldsCell (heap_of self.old) (plain_cell cell) }
-        requires dead { value_of (heap_of self.old) (plain_cell cell) ≡ None }
         ensures { heap_of self.new ≡ init (plain_cell cell) value (heap_of self.old) }
     {
-        let environment = &mut self.environments[cell.environment.index() as usize];
-        environment.init(cell.place as usize, value);
+        if let Some(environment) = self.environments.get_mut(cell.environment.index() as usize) {
+            environment.init(cell.place as usize, value);
+        }
     }
 
     /// Gives the cell the value, where it is initialized and not constant (9.1.1.1.5).
     pub fn assign(&mut self, cell: Cell, value: Value) -> Assign
-        requires { HoldsCell (heap_of self.old) (plain_cell cell) }
         ensures answer { plain_assign result
             ≡ assign_answer (heap_of self.old) (plain_cell cell) }
         ensures after { heap_of self.new
             ≡ assign (plain_cell cell) value (heap_of self.old) }
     {
-        let environment = &mut self.environments[cell.environment.index() as usize];
-        environment.assign(cell.place as usize, value)
+        match self.environments.get_mut(cell.environment.index() as usize) {
+            Some(environment) => environment.assign(cell.place as usize, value),
+            None => Assign::Dead,
+        }
     }
 
-    /// Whether the object is one of this heap.
-    pub fn holds_object(&self, object: Object) -> bool
-        ensures { IsTrue result ↔ HoldsObject (heap_of self.now) object.index }
-    {
-        object.index() < self.objects.len() as u64
-    }
-
-    /// Whether the environment is one of this heap.
-    pub fn holds_environment(&self, env: Env) -> bool
-        ensures { IsTrue result ↔ HoldsEnvironment (heap_of self.now) env.index }
-    {
-        env.index() < self.environments.len() as u64
-    }
-
-    /// Whether the object inherits a property of this name that may not be written.
+    /// Whether the object, where it has no property of this name, inherits one that may not be written.
     fn bars(&self, object: Object, name: &Str) -> bool
-        requires { HoldsObject (heap_of self.now) object.index }
-        ensures { result ≡ bars (found object.index (heap_of self.now)
+        ensures { own (heap_of self.now) object.index name.now ≡ None → result
+            ≡ bars (found object.index (heap_of self.now)
             (object_at (heap_of self.now) object.index).prototype name.now) }
     {
-        match self.found(self.proto(object), name) {
+        if self.own(object, name).is_some() {
+            return false;
+        }
+        match self.inherited(object, name) {
             Some((_, writable)) => !writable,
             None => false,
         }
     }
 
-    /// The first property of this name along a chain of prototypes: its value, lent, and whether it
-    /// may be written.
-    fn found(&self, first: Option<Object>, name: &Str) -> Option<(&Value, bool)>
-        requires { ForSome first (λ o. HoldsObject (heap_of self.now) o.index) }
+    /// The first property of this name along what the object inherits from: its value, lent, and
+    /// whether it may be written.
+    fn inherited(&self, object: Object, name: &Str) -> Option<(&Value, bool)>
         ensures { option_map (λ f. (f.0.now, f.1)) result ≡ option_map seen_of
-            (chain_found (heap_of self.now) (option_map (λ o. o.index) first) name.now) }
+            (found object.index (heap_of self.now)
+            (object_at (heap_of self.now) object.index).prototype name.now) }
     {
-        let mut chain = first;
-        while let Some(at) = chain {
+        let mut chain = self.proto(object);
+        for _ in 0..object.index() {
+            let at = chain?;
             let record = self.record(at);
             if let Some((value, flags)) = record.own(name) {
                 return Some((value, record.may_write(flags)));
@@ -445,25 +429,33 @@ impl Heap {
 
     /// The object, lent.
     fn record(&self, object: Object) -> &ObjectRecord
-        requires { HoldsObject (heap_of self.now) object.index }
         ensures { plain_object result.now ≡ object_at (heap_of self.now) object.index }
     {
-        &self.objects[object.index() as usize]
+        match self.objects.get(object.index() as usize) {
+            Some(record) => record,
+            None => &self.nothing,
+        }
     }
 
     /// The environment, lent.
     fn environment(&self, env: Env) -> &Environment
-        requires { HoldsEnvironment (heap_of self.now) env.index }
         ensures { plain_environment result.now ≡ environment_at (heap_of self.now) env.index }
     {
-        &self.environments[env.index() as usize]
+        match self.environments.get(env.index() as usize) {
+            Some(environment) => environment,
+            None => &self.nowhere,
+        }
     }
 
-    /// The name that the cell is of, lent.
-    fn binding(&self, cell: Cell) -> &Binding
-        requires { HoldsCell (heap_of self.now) (plain_cell cell) }
-        ensures { plain_binding result.now ≡ binding_at (heap_of self.now) (plain_cell cell) }
+    /// The environment's own cell of this name.
+    fn cell_of(&self, env: Env, name: &Name) -> Option<Cell>
+        ensures { option_map plain_cell result ≡ option_map (cell_at env.index)
+            (place_of (environment_at (heap_of self.now) env.index) name.now) }
     {
-        &self.environment(cell.environment).bindings[cell.place as usize]
+        let place = self.environment(env).bindings.place_of(name)?;
+        Some(Cell {
+            environment: env,
+            place: place as u64,
+        })
     }
 }

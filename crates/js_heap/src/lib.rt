@@ -2,12 +2,14 @@
 //! change them.
 #![tactic(auto)]
 
+mod bindings;
 mod delete;
 mod elements;
 mod environment;
 mod heap;
 mod keys;
 mod object;
+mod properties;
 mod texts;
 mod write;
 

@@ -2,8 +2,10 @@ ghost use Rattle.std.specs.Prelude.{◌≡◌, OnOk, OnErr, option_map};
 
 use crate::Env;
 use crate::elements::Elements;
+use crate::properties::Properties;
 use items::{Items, Memory};
 use js_value::{Object, Str, Value, index_of};
+use std::alloc::Global;
 
 /// What an object is (ECMA-262, 10.1 to 10.4).
 #[derive(Clone, Copy, Debug, PartialEq, Eq)]
@@ -48,7 +50,7 @@ const LENGTH_FLAGS: Flags = Flags {
 pub(crate) const LENGTH: [u16; 6] = [108, 101, 110, 103, 116, 104];
 
 /// A data property (6.1.7.1).
-#[derive(Debug, Drop)]
+#[derive(Drop)]
 pub struct Property {
     pub key: Str,
     pub value: Value,
@@ -68,29 +70,38 @@ impl Property {
 
 /// An object, with the elements that it has where it is an array, and its other own properties in the
 /// order in which they were added.
-#[derive(Debug, Drop)]
+#[derive(Drop)]
 pub struct ObjectRecord {
     pub kind: ObjectKind,
     pub prototype: Option<Object>,
     pub frozen: bool,
     pub elements: Elements,
-    pub properties: Vec<Property>,
+    pub properties: Properties,
 }
 
 impl ObjectRecord {
-    ghost use Rattle.std.specs.Prelude.{position, not, ◌&&◌};
-    ghost use Rattle.std.specs.Str.{bytes_eq};
+    ghost use Rattle.std.specs.Prelude.{[], false, not, ◌&&◌};
     ghost use Rattle.js_value.specs.Objects.{property_of, own_of, own_of_array};
-    ghost use Rattle.js_heap.specs.Object.{plain_property, plain_object, property_with};
+    ghost use Rattle.js_heap.specs.Object.{plain_kind, plain_property, plain_object, property_with};
     ghost use Rattle.js_heap.specs.private.Object.{with_defined, with_more, with_cut};
 
-    /// The place of its own property of this key.
-    pub(crate) fn place_of(&self, key: &Str) -> Option<usize>
-        ensures { result ≡ position (λ p. bytes_eq p.key key.now) self.now.properties.items }
+    /// An object of no elements and no other properties, which takes no memory.
+    pub fn new(alloc: Global, kind: ObjectKind, prototype: Option<Object>) -> ObjectRecord
+        ensures { plain_object result ≡ record {
+          kind = plain_kind kind;
+          prototype = option_map (λ o. o.index) prototype;
+          frozen = false;
+          elements = [];
+          properties = [];
+        } }
     {
-        self.properties
-            .iter()
-            .position(|property| property.has(key))
+        ObjectRecord {
+            kind,
+            prototype,
+            frozen: false,
+            elements: Elements::none(alloc),
+            properties: Properties::none(alloc),
+        }
     }
 
     /// Its own property of this key that is none of an array.
@@ -98,8 +109,8 @@ impl ObjectRecord {
         ensures { option_map (λ found. property_with key.now found.0.now found.1) result
             ≡ property_of (plain_object self.now).properties key.now }
     {
-        let place = self.place_of(key)?;
-        let property = &self.properties[place];
+        let place = self.properties.place_of(key)?;
+        let property = &self.properties.items[place];
         Some((&property.value, property.flags))
     }
 
@@ -139,7 +150,6 @@ impl ObjectRecord {
     /// Puts more elements after those that it has. On want of memory nothing changes.
     pub fn append(&mut self, more: Items<Value>) -> Result<(), Memory>
         ensures ok { OnOk result (plain_object self.new ≡ with_more more (plain_object self.old)) }
-        ensures prototype { self.new.prototype ≡ self.old.prototype }
         ensures err { OnErr result (plain_object self.new ≡ plain_object self.old) }
     {
         self.elements.append(more)
@@ -147,8 +157,7 @@ impl ObjectRecord {
 
     /// Leaves the first so many elements, and no others.
     pub fn cut(&mut self, size: usize)
-        ensures after { plain_object self.new ≡ with_cut size (plain_object self.old) }
-        ensures prototype { self.new.prototype ≡ self.old.prototype }
+        ensures { plain_object self.new ≡ with_cut size (plain_object self.old) }
     {
         self.elements.cut(size);
     }
@@ -158,13 +167,8 @@ impl ObjectRecord {
     pub fn define(&mut self, property: Property) -> Result<(), Memory>
         ensures ok { OnOk result (plain_object self.new
             ≡ with_defined (plain_property property) (plain_object self.old)) }
-        ensures prototype { self.new.prototype ≡ self.old.prototype }
         ensures err { OnErr result (plain_object self.new ≡ plain_object self.old) }
     {
-        match self.place_of(&property.key) {
-            Some(place) => self.properties[place] = property,
-            None => self.properties.push(property)?,
-        }
-        Ok(())
+        self.properties.define(property)
     }
 }

@@ -23,7 +23,7 @@ pub enum Set {
 }
 
 /// What a write to a property is.
-#[derive(Clone, Copy, Debug, PartialEq, Eq)]
+#[derive(Clone, Copy)]
 pub(crate) enum Write {
     Replaces,
     Adds,
@@ -73,7 +73,6 @@ impl ObjectRecord {
             ≡ spec.set_by (write_in (plain_object self.old) barred key.now value)) }
         ensures ok { OnOk result (plain_object self.new ≡ spec.written (plain_object self.old)
             (write_in (plain_object self.old) barred key.now value) key.now value) }
-        ensures prototype { self.new.prototype ≡ self.old.prototype }
         ensures err { OnErr result (plain_object self.new ≡ plain_object self.old) }
     {
         let write = self.write_of(key, &value, barred);
@@ -127,7 +126,6 @@ impl ObjectRecord {
     fn perform(&mut self, write: Write, key: &Str, value: Value) -> Result<(), Memory>
         ensures ok { OnOk result (plain_object self.new
             ≡ spec.written (plain_object self.old) (plain_write write) key.now value) }
-        ensures prototype { self.new.prototype ≡ self.old.prototype }
         ensures err { OnErr result (plain_object self.new ≡ plain_object self.old) }
     {
         match write {
@@ -143,20 +141,16 @@ impl ObjectRecord {
 
     /// Gives its own property of this key the value.
     fn give(&mut self, key: &Str, value: Value)
-        ensures after { plain_object self.new
+        ensures { plain_object self.new
             ≡ spec.written (plain_object self.old) spec.Replaces key.now value }
-        ensures prototype { self.new.prototype ≡ self.old.prototype }
     {
-        if let Some(place) = self.place_of(key) {
-            self.properties[place].value = value;
-        }
+        self.properties.give(key, value);
     }
 
     /// Puts a new property after the others. On want of memory nothing changes.
     fn add(&mut self, key: &Str, value: Value) -> Result<(), Memory>
         ensures ok { OnOk result (plain_object self.new
             ≡ spec.written (plain_object self.old) spec.Adds key.now value) }
-        ensures prototype { self.new.prototype ≡ self.old.prototype }
         ensures err { OnErr result (plain_object self.new ≡ plain_object self.old) }
     {
         let key = key.copy()?;

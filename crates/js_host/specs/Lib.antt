@@ -1,3 +1,2 @@
-pub mod Held
 pub mod Native
 pub mod private

@@ -1,2 +1,2 @@
 -- What the contracts of private functions name: no reader has to believe it.
-pub mod Deeds
+pub mod Stopping

@@ -1,14 +1,12 @@
 // The built-in functions of arrays (ECMA-262, 23.1.3).
 
-ghost use Rattle.std.specs.Prelude.{◌≡◌, ◌≤◌, ◌++◌, IfOk, OnOk, length, map, position, flat_map, drop, pos, reverse};
+ghost use Rattle.std.specs.Prelude.{◌≡◌, ◌≤◌, ◌++◌, IfOk, OnOk, length, map, position, flat_map, reverse};
 ghost use Rattle.js_value.specs.OnObjects as spec;
 ghost use Rattle.js_value.specs.OnData as answers;
 ghost use Rattle.js_value.specs.Arguments as arguments;
 ghost use Rattle.js_value.specs.Equality as equality;
-ghost use Rattle.js_heap.specs.Heap.{heap_of, HoldsObject};
+ghost use Rattle.js_heap.specs.Heap.{heap_of};
 ghost use Rattle.js_data.specs.Does.{Does};
-ghost use Rattle.js_host.specs.Held.{Held, AllHeld};
-ghost use Rattle.js_host.specs.private.Deeds.{DeedHeld};
 
 use crate::objects::rest_of;
 use crate::values::{
@@ -22,10 +20,7 @@ use std::alloc::Global;
 
 /// `Array.prototype.concat` (23.1.3.2).
 pub fn concat(alloc: Global, heap: &Heap, this: &Value, arguments: &[Value]) -> Result<Deed, Halt>
-    requires this { Held (heap_of heap.now) this.now }
-    requires arguments { AllHeld (heap_of heap.now) arguments.now }
-    ensures does { Does (spec.concat this.now arguments.now (heap_of heap.now)) result }
-    ensures held { IfOk result (DeedHeld (heap_of heap.now)) }
+    ensures { Does (spec.concat this.now arguments.now (heap_of heap.now)) result }
 {
     let array = array_of(heap, this)?;
     let mut elements = copies(alloc, heap.elements(array))?;
@@ -35,7 +30,6 @@ pub fn concat(alloc: Global, heap: &Heap, this: &Value, arguments: &[Value]) -> 
 
 /// Puts values after others: of an array its elements.
 fn spread_all(heap: &Heap, elements: &mut Items<Value>, values: &[Value]) -> Result<(), Memory>
-    requires { AllHeld (heap_of heap.now) values.now }
     ensures { OnOk result (elements.new ≡ elements.old ++ flat_map (spec.spread (heap_of heap.now)) values.now) }
 {
     for value in values {
@@ -46,7 +40,6 @@ fn spread_all(heap: &Heap, elements: &mut Items<Value>, values: &[Value]) -> Res
 
 /// Puts a value after others, or the elements of an array.
 fn spread(heap: &Heap, elements: &mut Items<Value>, value: &Value) -> Result<(), Memory>
-    requires { Held (heap_of heap.now) value.now }
     ensures { OnOk result (elements.new ≡ elements.old ++ spec.spread (heap_of heap.now) value.now) }
 {
     match value {
@@ -70,9 +63,7 @@ fn put_copies(elements: &mut Items<Value>, values: &[Value]) -> Result<(), Memor
 
 /// `Array.prototype.includes` (23.1.3.16).
 pub fn includes(heap: &Heap, this: &Value, arguments: &[Value]) -> Result<Deed, Halt>
-    requires { Held (heap_of heap.now) this.now }
-    ensures does { Does (spec.includes this.now arguments.now (heap_of heap.now)) result }
-    ensures held { IfOk result (DeedHeld (heap_of heap.now)) }
+    ensures { Does (spec.includes this.now arguments.now (heap_of heap.now)) result }
 {
     let array = array_of(heap, this)?;
     let place = found_in(arguments, heap.elements(array))?;
@@ -81,9 +72,7 @@ pub fn includes(heap: &Heap, this: &Value, arguments: &[Value]) -> Result<Deed, 
 
 /// `Array.prototype.indexOf` (23.1.3.17).
 pub fn index_of(heap: &Heap, this: &Value, arguments: &[Value]) -> Result<Deed, Halt>
-    requires { Held (heap_of heap.now) this.now }
-    ensures does { Does (spec.index_of this.now arguments.now (heap_of heap.now)) result }
-    ensures held { IfOk result (DeedHeld (heap_of heap.now)) }
+    ensures { Does (spec.index_of this.now arguments.now (heap_of heap.now)) result }
 {
     let array = array_of(heap, this)?;
     let place = found_in(arguments, heap.elements(array))?;
@@ -136,9 +125,7 @@ fn place_or(place: Option<usize>) -> Result<Value, Memory>
 
 /// `Array.prototype.join` (23.1.3.18).
 pub fn join(alloc: Global, heap: &Heap, this: &Value, arguments: &[Value]) -> Result<Deed, Halt>
-    requires { Held (heap_of heap.now) this.now }
-    ensures does { Does (spec.join this.now arguments.now (heap_of heap.now)) result }
-    ensures held { IfOk result (DeedHeld (heap_of heap.now)) }
+    ensures { Does (spec.join this.now arguments.now (heap_of heap.now)) result }
 {
     let array = array_of(heap, this)?;
     let separator = separator(alloc, arguments)?;
@@ -208,9 +195,7 @@ fn joining(alloc: Global, element: &Value) -> Result<Str, Halt>
 
 /// `Array.prototype.pop` (23.1.3.22).
 pub fn pop(heap: &Heap, this: &Value) -> Result<Deed, Halt>
-    requires { Held (heap_of heap.now) this.now }
-    ensures does { Does (spec.pop this.now (heap_of heap.now)) result }
-    ensures held { IfOk result (DeedHeld (heap_of heap.now)) }
+    ensures { Does (spec.pop this.now (heap_of heap.now)) result }
 {
     let array = array_of(heap, this)?;
     let elements = heap.elements(array);
@@ -221,9 +206,7 @@ pub fn pop(heap: &Heap, this: &Value) -> Result<Deed, Halt>
 
 /// `Array.prototype.push` (23.1.3.23).
 pub fn push(alloc: Global, heap: &Heap, this: &Value, arguments: &[Value]) -> Result<Deed, Halt>
-    requires { Held (heap_of heap.now) this.now }
-    ensures does { Does (spec.push this.now arguments.now (heap_of heap.now)) result }
-    ensures held { IfOk result (DeedHeld (heap_of heap.now)) }
+    ensures { Does (spec.push this.now arguments.now (heap_of heap.now)) result }
 {
     let array = array_of(heap, this)?;
     changes(heap, array, Deed::Append(array, copies(alloc, arguments)?))
@@ -231,9 +214,7 @@ pub fn push(alloc: Global, heap: &Heap, this: &Value, arguments: &[Value]) -> Re
 
 /// `Array.prototype.reverse` (23.1.3.26).
 pub fn reverse(alloc: Global, heap: &Heap, this: &Value) -> Result<Deed, Halt>
-    requires { Held (heap_of heap.now) this.now }
-    ensures does { Does (spec.reverse_it this.now (heap_of heap.now)) result }
-    ensures held { IfOk result (DeedHeld (heap_of heap.now)) }
+    ensures { Does (spec.reverse_it this.now (heap_of heap.now)) result }
 {
     let array = array_of(heap, this)?;
     reversed(alloc, heap, array, heap.elements(array))
@@ -241,9 +222,7 @@ pub fn reverse(alloc: Global, heap: &Heap, this: &Value) -> Result<Deed, Halt>
 
 /// The elements of an array in the other order, where there are two or more.
 fn reversed(alloc: Global, heap: &Heap, array: Object, elements: &[Value]) -> Result<Deed, Halt>
-    requires { HoldsObject (heap_of heap.now) array.index }
-    ensures does { Does (spec.reversed (heap_of heap.now) array elements.now) result }
-    ensures held { IfOk result (DeedHeld (heap_of heap.now)) }
+    ensures { Does (spec.reversed (heap_of heap.now) array elements.now) result }
 {
     if elements.len() < 2 {
         return Ok(Deed::Give(Value::Object(array)));
@@ -271,9 +250,7 @@ fn backward(alloc: Global, values: &[Value]) -> Result<Items<Value>, Memory>
 
 /// `Array.prototype.shift` (23.1.3.27).
 pub fn shift(alloc: Global, heap: &Heap, this: &Value) -> Result<Deed, Halt>
-    requires { Held (heap_of heap.now) this.now }
-    ensures does { Does (spec.shift this.now (heap_of heap.now)) result }
-    ensures held { IfOk result (DeedHeld (heap_of heap.now)) }
+    ensures { Does (spec.shift this.now (heap_of heap.now)) result }
 {
     let array = array_of(heap, this)?;
     let first = value_at(heap.elements(array), 0)?;
@@ -283,9 +260,7 @@ pub fn shift(alloc: Global, heap: &Heap, this: &Value) -> Result<Deed, Halt>
 
 /// `Array.prototype.slice` (23.1.3.28).
 pub fn slice(alloc: Global, heap: &Heap, this: &Value, arguments: &[Value]) -> Result<Deed, Halt>
-    requires { Held (heap_of heap.now) this.now }
-    ensures does { Does (spec.slice this.now arguments.now (heap_of heap.now)) result }
-    ensures held { IfOk result (DeedHeld (heap_of heap.now)) }
+    ensures { Does (spec.slice this.now arguments.now (heap_of heap.now)) result }
 {
     let array = array_of(heap, this)?;
     Ok(Deed::MakeArray(slice_of(alloc, heap.elements(array), arguments)?))
@@ -321,9 +296,7 @@ fn slice_to(
 
 /// `Array.prototype.unshift` (23.1.3.37).
 pub fn unshift(alloc: Global, heap: &Heap, this: &Value, arguments: &[Value]) -> Result<Deed, Halt>
-    requires { Held (heap_of heap.now) this.now }
-    ensures does { Does (spec.unshift this.now arguments.now (heap_of heap.now)) result }
-    ensures held { IfOk result (DeedHeld (heap_of heap.now)) }
+    ensures { Does (spec.unshift this.now arguments.now (heap_of heap.now)) result }
 {
     let array = array_of(heap, this)?;
     let mut elements = copies(alloc, arguments)?;

@@ -1,13 +1,11 @@
-ghost use Rattle.std.specs.Prelude.{◌≡◌, ◌≤◌, IfOk, OnOk, Ok, option_map, slice_get, map};
+ghost use Rattle.std.specs.Prelude.{◌≡◌, IfOk, OnOk, Ok, option_map, slice_get, map};
 ghost use Rattle.js_value.specs.Host as spec;
-ghost use Rattle.js_value.specs.Objects.{next_object};
-ghost use Rattle.js_value.specs.Realm.{built_in_count, text};
+ghost use Rattle.js_value.specs.Realm.{text};
 ghost use Rattle.js_value.specs.OnObjects.{value_at};
 ghost use Rattle.js_heap.specs.Heap.{heap_of};
 ghost use Rattle.js_data.specs.Does.{Does};
-ghost use Rattle.js_host.specs.Held.{Held, AllHeld};
 ghost use Rattle.js_host.specs.Native.{plain_native};
-ghost use Rattle.js_host.specs.private.Deeds.{DeedHeld, row_seen};
+ghost use Rattle.js_host.specs.private.Stopping.{row_seen};
 
 use crate::complaints::{error_of, message_of};
 use crate::constructors::of_constructor;
@@ -27,7 +25,7 @@ type FunctionRow = (BuiltIn, Option<Place>, &'static str, u8);
 
 /// What the built-in function of this number answers to `this` and the arguments. A number that no
 /// built-in function has is answered as a value that can't be called. Only want of memory is an
-/// error; then only that no object is gone is said of the heap.
+/// error; then nothing is said of the heap.
 pub fn call_native(
     alloc: Global,
     heap: &mut Heap,
@@ -36,14 +34,10 @@ pub fn call_native(
     this: &Value,
     arguments: &[Value],
 ) -> Result<Native, Memory>
-    requires realm { built_in_count ≤ next_object (heap_of heap.old) }
-    requires this { Held (heap_of heap.old) this.now }
-    requires arguments { AllHeld (heap_of heap.old) arguments.now }
     ensures answer { IfOk result (λ native. plain_native native
         ≡ spec.native_of id constructing this.now arguments.now (heap_of heap.old)) }
     ensures after { OnOk result (heap_of heap.new
         ≡ spec.native_heap id constructing this.now arguments.now (heap_of heap.old)) }
-    ensures grows { next_object (heap_of heap.old) ≤ next_object (heap_of heap.new) }
 {
     match done_of(alloc, heap, id, constructing, this, arguments) {
         Ok(deed) => perform(alloc, heap, deed),
@@ -65,11 +59,7 @@ fn done_of(
     this: &Value,
     arguments: &[Value],
 ) -> Result<Deed, Halt>
-    requires realm { built_in_count ≤ next_object (heap_of heap.now) }
-    requires this { Held (heap_of heap.now) this.now }
-    requires arguments { AllHeld (heap_of heap.now) arguments.now }
-    ensures does { Does (spec.done_of (spec.built_in id) constructing this.now arguments.now (heap_of heap.now)) result }
-    ensures held { IfOk result (DeedHeld (heap_of heap.now)) }
+    ensures { Does (spec.done_of (spec.built_in id) constructing this.now arguments.now (heap_of heap.now)) result }
 {
     match function_of(&BUILT_INS, id) {
         Some(function) => done_by(alloc, heap, function, constructing, this, arguments),
@@ -107,11 +97,7 @@ fn done_by(
     this: &Value,
     arguments: &[Value],
 ) -> Result<Deed, Halt>
-    requires realm { built_in_count ≤ next_object (heap_of heap.now) }
-    requires this { Held (heap_of heap.now) this.now }
-    requires arguments { AllHeld (heap_of heap.now) arguments.now }
-    ensures does { Does (spec.done_by function constructing this.now arguments.now (heap_of heap.now)) result }
-    ensures held { IfOk result (DeedHeld (heap_of heap.now)) }
+    ensures { Does (spec.done_by function constructing this.now arguments.now (heap_of heap.now)) result }
 {
     match function {
         BuiltIn::Constructor(function) => of_constructor(alloc, function, constructing, arguments),

@@ -1,14 +1,10 @@
 // The built-in functions that may be constructed (ECMA-262, 20.1.1, 20.3.1, 20.5.1, 21.1.1, 22.1.1 and 23.1.1).
 
-ghost use Rattle.std.specs.Prelude.{◌≡◌, IfOk};
+ghost use Rattle.std.specs.Prelude.{◌≡◌};
 ghost use Rattle.js_value.specs.Constructors as spec;
 ghost use Rattle.js_value.specs.OnObjects as looks;
-ghost use Rattle.js_value.specs.Objects.{next_object};
 ghost use Rattle.js_value.specs.Conversions as conversions;
-ghost use Rattle.js_heap.specs.Heap.{heap_of, HoldsObject};
 ghost use Rattle.js_data.specs.Does.{Does};
-ghost use Rattle.js_host.specs.Held.{AllHeld};
-ghost use Rattle.js_host.specs.private.Deeds.{DeedHeld};
 
 use crate::values::{copies, give_text, truth, value_at};
 use items::Items;

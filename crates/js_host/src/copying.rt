@@ -1,13 +1,10 @@
 // Own enumerable properties of objects, written to another one (ECMA-262, 20.1.2.1).
 
-ghost use Rattle.std.specs.Prelude.{◌≡◌, IfOk, OnOk, Ok, Err, Some, None};
+ghost use Rattle.std.specs.Prelude.{◌≡◌, IfOk, Ok, Err, Some, None};
 ghost use Rattle.js_value.specs.Copying as spec;
-ghost use Rattle.js_value.specs.Arguments.{Or};
-ghost use Rattle.js_value.specs.Objects.{next_object};
-ghost use Rattle.js_heap.specs.Heap.{heap_of, HoldsObject};
+ghost use Rattle.js_heap.specs.Heap.{heap_of};
 ghost use Rattle.js_data.specs.Does.{Does};
-ghost use Rattle.js_host.specs.Held.{Held, AllHeld};
-ghost use Rattle.js_host.specs.private.Deeds.{HaltsAs};
+ghost use Rattle.js_host.specs.private.Stopping.{HaltsAs};
 
 use crate::values::is_length_of_array;
 use items::Memory;
@@ -18,10 +15,7 @@ use js_value::{Complaint, Halt, Key, Kind, Object, Primitive, Str, Value};
 /// Writes to an object what the others have, one after another. An error is what stopped it, and what was written
 /// before stays.
 pub fn copy_values(heap: &mut Heap, target: Object, sources: &[Value]) -> Result<(), Halt>
-    requires target { HoldsObject (heap_of heap.old) target.index }
-    requires sources { AllHeld (heap_of heap.old) sources.now }
-    ensures halts { HaltsAs (spec.copy_values target.index sources.now (heap_of heap.old)) (heap_of heap.new) result }
-    ensures size { next_object (heap_of heap.new) ≡ next_object (heap_of heap.old) }
+    ensures { HaltsAs (spec.copy_values target.index sources.now (heap_of heap.old)) (heap_of heap.new) result }
 {
     for source in sources {
         copy_value(heap, target, source)?;
@@ -31,10 +25,7 @@ pub fn copy_values(heap: &mut Heap, target: Object, sources: &[Value]) -> Result
 
 /// Writes to an object what another has.
 fn copy_value(heap: &mut Heap, target: Object, source: &Value) -> Result<(), Halt>
-    requires target { HoldsObject (heap_of heap.old) target.index }
-    requires source { Held (heap_of heap.old) source.now }
-    ensures halts { HaltsAs (spec.copy_value target.index source.now (heap_of heap.old)) (heap_of heap.new) result }
-    ensures size { next_object (heap_of heap.new) ≡ next_object (heap_of heap.old) }
+    ensures { HaltsAs (spec.copy_value target.index source.now (heap_of heap.old)) (heap_of heap.new) result }
 {
     match source {
         Value::Object(object) => {
@@ -48,10 +39,7 @@ fn copy_value(heap: &mut Heap, target: Object, source: &Value) -> Result<(), Hal
 
 /// Writes to an object what another has of these keys.
 fn copy_keys(heap: &mut Heap, target: Object, source: Object, keys: &[Key]) -> Result<(), Halt>
-    requires target { HoldsObject (heap_of heap.old) target.index }
-    requires source { HoldsObject (heap_of heap.old) source.index }
-    ensures halts { HaltsAs (spec.copy_keys target.index source.index keys.now (heap_of heap.old)) (heap_of heap.new) result }
-    ensures size { next_object (heap_of heap.new) ≡ next_object (heap_of heap.old) }
+    ensures { HaltsAs (spec.copy_keys target.index source.index keys.now (heap_of heap.old)) (heap_of heap.new) result }
 {
     for key in keys {
         copy_key(heap, target, source, &key.key)?;
@@ -61,10 +49,7 @@ fn copy_keys(heap: &mut Heap, target: Object, source: Object, keys: &[Key]) -> R
 
 /// Writes to an object what another has of this key, where it is enumerable.
 fn copy_key(heap: &mut Heap, target: Object, source: Object, key: &Str) -> Result<(), Halt>
-    requires target { HoldsObject (heap_of heap.old) target.index }
-    requires source { HoldsObject (heap_of heap.old) source.index }
-    ensures halts { HaltsAs (spec.copy_key target.index source.index key.now (heap_of heap.old)) (heap_of heap.new) result }
-    ensures size { next_object (heap_of heap.new) ≡ next_object (heap_of heap.old) }
+    ensures { HaltsAs (spec.copy_key target.index source.index key.now (heap_of heap.old)) (heap_of heap.new) result }
 {
     match enumerable_value(heap, source, key)? {
         Some(value) => write(heap, target, key, value),
@@ -74,7 +59,6 @@ fn copy_key(heap: &mut Heap, target: Object, source: Object, key: &Str) -> Resul
 
 /// The value of an object's own property of this key once more, where it is enumerable.
 fn enumerable_value(heap: &Heap, object: Object, key: &Str) -> Result<Option<Value>, Memory>
-    requires { HoldsObject (heap_of heap.now) object.index }
     ensures { IfOk result (λ value. value ≡ spec.enumerable_value (heap_of heap.now) object.index key.now) }
 {
     match heap.own(object, key) {
@@ -85,9 +69,7 @@ fn enumerable_value(heap: &Heap, object: Object, key: &Str) -> Result<Option<Val
 
 /// Writes a property (7.3.4).
 fn write(heap: &mut Heap, object: Object, key: &Str, value: Value) -> Result<(), Halt>
-    requires { HoldsObject (heap_of heap.old) object.index }
-    ensures halts { HaltsAs (spec.write object.index key.now value (heap_of heap.old)) (heap_of heap.new) result }
-    ensures size { next_object (heap_of heap.new) ≡ next_object (heap_of heap.old) }
+    ensures { HaltsAs (spec.write object.index key.now value (heap_of heap.old)) (heap_of heap.new) result }
 {
     let value = taken(heap, object, key, value)?;
     write_taken(heap, object, key, value)
@@ -95,7 +77,6 @@ fn write(heap: &mut Heap, object: Object, key: &Str, value: Value) -> Result<(),
 
 /// A value as it is written to a property: to the length of an array, a number (10.4.2.4).
 fn taken(heap: &Heap, object: Object, key: &Str, value: Value) -> Result<Value, Halt>
-    requires { HoldsObject (heap_of heap.now) object.index }
     ensures { Does (spec.taken (heap_of heap.now) object.index key.now value) result }
 {
     if is_length_of_array(heap, object, key) {
@@ -106,9 +87,7 @@ fn taken(heap: &Heap, object: Object, key: &Str, value: Value) -> Result<Value, 
 
 /// Writes a property.
 fn write_taken(heap: &mut Heap, object: Object, key: &Str, value: Value) -> Result<(), Halt>
-    requires { HoldsObject (heap_of heap.old) object.index }
-    ensures halts { HaltsAs (spec.write_taken object.index key.now (Ok value) (heap_of heap.old)) (heap_of heap.new) result }
-    ensures size { next_object (heap_of heap.new) ≡ next_object (heap_of heap.old) }
+    ensures { HaltsAs (spec.write_taken object.index key.now (Ok value) (heap_of heap.old)) (heap_of heap.new) result }
 {
     match heap.set(object, key, value)? {
         Set::Done => Ok(()),

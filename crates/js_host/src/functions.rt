@@ -1,12 +1,10 @@
 // The built-in functions of functions (ECMA-262, 20.2.3).
 
-ghost use Rattle.std.specs.Prelude.{◌≡◌, IfOk, codes, ◌+◌};
+ghost use Rattle.std.specs.Prelude.{◌≡◌, IfOk};
 ghost use Rattle.js_value.specs.OnObjects as spec;
 ghost use Rattle.js_value.specs.Objects as objects;
-ghost use Rattle.js_heap.specs.Heap.{heap_of, HoldsObject};
+ghost use Rattle.js_heap.specs.Heap.{heap_of};
 ghost use Rattle.js_data.specs.Does.{Does};
-ghost use Rattle.js_host.specs.Held.{Held, AllHeld};
-ghost use Rattle.js_host.specs.private.Deeds.{DeedHeld};
 
 use crate::objects::rest_of;
 use crate::values::{copies, is_function, value_at};
@@ -18,9 +16,7 @@ use std::alloc::{AllocError, Global};
 
 /// `Function.prototype.call` (20.2.3.3).
 pub fn call(alloc: Global, heap: &Heap, this: &Value, arguments: &[Value]) -> Result<Deed, Halt>
-    requires { Held (heap_of heap.now) this.now }
-    ensures does { Does (spec.call this.now arguments.now (heap_of heap.now)) result }
-    ensures held { IfOk result (DeedHeld (heap_of heap.now)) }
+    ensures { Does (spec.call this.now arguments.now (heap_of heap.now)) result }
 {
     if !is_function(heap, this) {
         return Err(Halt::Throw(Complaint::NotAFunction));
@@ -31,10 +27,7 @@ pub fn call(alloc: Global, heap: &Heap, this: &Value, arguments: &[Value]) -> Re
 
 /// `Function.prototype.apply` (20.2.3.1).
 pub fn apply(alloc: Global, heap: &Heap, this: &Value, arguments: &[Value]) -> Result<Deed, Halt>
-    requires this { Held (heap_of heap.now) this.now }
-    requires arguments { AllHeld (heap_of heap.now) arguments.now }
-    ensures does { Does (spec.apply this.now arguments.now (heap_of heap.now)) result }
-    ensures held { IfOk result (DeedHeld (heap_of heap.now)) }
+    ensures { Does (spec.apply this.now arguments.now (heap_of heap.now)) result }
 {
     if !is_function(heap, this) {
         return Err(Halt::Throw(Complaint::NotAFunction));
@@ -45,7 +38,6 @@ pub fn apply(alloc: Global, heap: &Heap, this: &Value, arguments: &[Value]) -> R
 
 /// The arguments that the second argument tells; none where it is undefined or null.
 fn listed(alloc: Global, heap: &Heap, arguments: &[Value]) -> Result<Items<Value>, Halt>
-    requires { AllHeld (heap_of heap.now) arguments.now }
     ensures { Does (spec.listed (heap_of heap.now) (spec.value_at arguments.now 1)) result }
 {
     match arguments.get(1) {
@@ -59,7 +51,6 @@ fn listed(alloc: Global, heap: &Heap, arguments: &[Value]) -> Result<Items<Value
 
 /// The elements of an array, or the properties at the indices of another object (7.3.18).
 fn listed_of(alloc: Global, heap: &Heap, object: Object) -> Result<Items<Value>, Halt>
-    requires { HoldsObject (heap_of heap.now) object.index }
     ensures { Does (spec.listed_of (heap_of heap.now) object.index) result }
 {
     if matches!(heap.kind(object), ObjectKind::Array) {
@@ -71,7 +62,6 @@ fn listed_of(alloc: Global, heap: &Heap, object: Object) -> Result<Items<Value>,
 
 /// The length that an object tells, 0 where it tells none (7.3.19).
 fn length_of(alloc: Global, heap: &Heap, object: Object) -> Result<u64, Halt>
-    requires { HoldsObject (heap_of heap.now) object.index }
     ensures { Does (spec.length_of (objects.get (heap_of heap.now) object.index objects.array_length)) result }
 {
     let key = ascii(alloc, b"length")?;
@@ -95,7 +85,6 @@ fn at_indices(
     object: Object,
     length: u64,
 ) -> Result<Items<Value>, Memory>
-    requires { HoldsObject (heap_of heap.now) object.index }
     ensures { IfOk result (λ values. values ≡ spec.at_indices (heap_of heap.now) object.index length 0) }
 {
     let mut values = Items::new(alloc);
@@ -107,7 +96,6 @@ fn at_indices(
 
 /// The property at an index.
 fn at_index(alloc: Global, heap: &Heap, object: Object, index: u64) -> Result<Value, Memory>
-    requires { HoldsObject (heap_of heap.now) object.index }
     ensures { IfOk result (λ value. value ≡ spec.value_of_index (heap_of heap.now) object.index index) }
 {
     let Ok(number) = i64::try_from(index) else {
@@ -122,9 +110,7 @@ fn at_index(alloc: Global, heap: &Heap, object: Object, index: u64) -> Result<Va
 
 /// `Function.prototype.toString` (20.2.3.5).
 pub fn function_to_string(heap: &Heap, this: &Value) -> Result<Deed, Halt>
-    requires { Held (heap_of heap.now) this.now }
-    ensures does { Does (spec.function_to_string this.now (heap_of heap.now)) result }
-    ensures held { IfOk result (DeedHeld (heap_of heap.now)) }
+    ensures { Does (spec.function_to_string this.now (heap_of heap.now)) result }
 {
     if is_function(heap, this) {
         return Err(Halt::Refuse(Kind::Text));

@@ -1,13 +1,10 @@
 // The built-in functions of objects (ECMA-262, 20.1.2 and 20.1.3).
 
 ghost use Rattle.std.specs.Prelude.{◌≡◌, IfOk, is_some, drop};
-ghost use Rattle.std.specs.Option.{ForSome};
 ghost use Rattle.js_value.specs.OnObjects as spec;
 ghost use Rattle.js_value.specs.Texts.{own_of_text};
-ghost use Rattle.js_heap.specs.Heap.{heap_of, HoldsObject};
+ghost use Rattle.js_heap.specs.Heap.{heap_of};
 ghost use Rattle.js_data.specs.Does.{Does};
-ghost use Rattle.js_host.specs.Held.{Held, AllHeld};
-ghost use Rattle.js_host.specs.private.Deeds.{DeedHeld};
 
 use crate::values::{copies, first_object, is_array, truth, value_at};
 use items::{Items, Memory};
@@ -17,12 +14,10 @@ use js_value::{Complaint, Deed, Halt, Key, Kind, Object, Primitive, Str, Value};
 use std::alloc::Global;
 
 /// `Object.assign` (20.1.2.1).
-pub fn assign(alloc: Global, heap: &Heap, arguments: &[Value]) -> Result<Deed, Halt>
-    requires { AllHeld (heap_of heap.now) arguments.now }
-    ensures does { Does (spec.assign arguments.now) result }
-    ensures held { IfOk result (DeedHeld (heap_of heap.now)) }
+pub fn assign(alloc: Global, arguments: &[Value]) -> Result<Deed, Halt>
+    ensures { Does (spec.assign arguments.now) result }
 {
-    let target = first_object(heap, arguments)?;
+    let target = first_object(arguments)?;
     let sources = rest_of(arguments);
     Ok(Deed::Copy(target, copies(alloc, sources)?))
 }
@@ -38,20 +33,16 @@ pub fn rest_of(arguments: &[Value]) -> &[Value]
 }
 
 /// `Object.create` (20.1.2.2).
-pub fn create(heap: &Heap, arguments: &[Value]) -> Result<Deed, Halt>
-    requires { AllHeld (heap_of heap.now) arguments.now }
-    ensures does { Does (spec.create arguments.now) result }
-    ensures held { IfOk result (DeedHeld (heap_of heap.now)) }
+pub fn create(arguments: &[Value]) -> Result<Deed, Halt>
+    ensures { Does (spec.create arguments.now) result }
 {
-    let parent = first_parent(heap, arguments)?;
-    plain_object(heap, parent, arguments)
+    let parent = first_parent(arguments)?;
+    plain_object(parent, arguments)
 }
 
 /// What a new object inherits from, by the first argument.
-fn first_parent(heap: &Heap, arguments: &[Value]) -> Result<Option<Object>, Halt>
-    requires { AllHeld (heap_of heap.now) arguments.now }
-    ensures does { Does (spec.parent_of (spec.value_at arguments.now 0)) result }
-    ensures held { IfOk result (λ parent. ForSome parent (λ o. HoldsObject (heap_of heap.now) o.index)) }
+fn first_parent(arguments: &[Value]) -> Result<Option<Object>, Halt>
+    ensures { Does (spec.parent_of (spec.value_at arguments.now 0)) result }
 {
     match arguments {
         [Value::Object(object), ..] => Ok(Some(*object)),
@@ -61,10 +52,8 @@ fn first_parent(heap: &Heap, arguments: &[Value]) -> Result<Option<Object>, Halt
 }
 
 /// An object without properties, where the second argument asks for none.
-fn plain_object(heap: &Heap, parent: Option<Object>, arguments: &[Value]) -> Result<Deed, Halt>
-    requires { ForSome parent (λ o. HoldsObject (heap_of heap.now) o.index) }
-    ensures does { Does (spec.plain_object parent (spec.value_at arguments.now 1)) result }
-    ensures held { IfOk result (DeedHeld (heap_of heap.now)) }
+fn plain_object(parent: Option<Object>, arguments: &[Value]) -> Result<Deed, Halt>
+    ensures { Does (spec.plain_object parent (spec.value_at arguments.now 1)) result }
 {
     match value_at(arguments, 1)? {
         Value::Primitive(Primitive::Undefined) => Ok(Deed::MakeObject(parent)),
@@ -73,10 +62,8 @@ fn plain_object(heap: &Heap, parent: Option<Object>, arguments: &[Value]) -> Res
 }
 
 /// `Object.freeze` (20.1.2.6).
-pub fn freeze(heap: &Heap, arguments: &[Value]) -> Result<Deed, Halt>
-    requires { AllHeld (heap_of heap.now) arguments.now }
-    ensures does { Does (spec.freeze_it (spec.value_at arguments.now 0)) result }
-    ensures held { IfOk result (DeedHeld (heap_of heap.now)) }
+pub fn freeze(arguments: &[Value]) -> Result<Deed, Halt>
+    ensures { Does (spec.freeze_it (spec.value_at arguments.now 0)) result }
 {
     match arguments {
         [Value::Object(object), ..] => Ok(Deed::Freeze(*object)),
@@ -86,11 +73,9 @@ pub fn freeze(heap: &Heap, arguments: &[Value]) -> Result<Deed, Halt>
 
 /// `Object.getPrototypeOf` (20.1.2.12).
 pub fn get_prototype_of(heap: &Heap, arguments: &[Value]) -> Result<Deed, Halt>
-    requires { AllHeld (heap_of heap.now) arguments.now }
-    ensures does { Does (spec.get_prototype_of arguments.now (heap_of heap.now)) result }
-    ensures held { IfOk result (DeedHeld (heap_of heap.now)) }
+    ensures { Does (spec.get_prototype_of arguments.now (heap_of heap.now)) result }
 {
-    let object = first_object(heap, arguments)?;
+    let object = first_object(arguments)?;
     Ok(Deed::Give(match heap.proto(object) {
         Some(prototype) => Value::Object(prototype),
         None => Value::Primitive(Primitive::Null),
@@ -99,9 +84,7 @@ pub fn get_prototype_of(heap: &Heap, arguments: &[Value]) -> Result<Deed, Halt>
 
 /// `Object.isFrozen` (20.1.2.17).
 pub fn is_frozen(heap: &Heap, arguments: &[Value]) -> Result<Deed, Halt>
-    requires { AllHeld (heap_of heap.now) arguments.now }
-    ensures does { Does (spec.truth (spec.is_frozen_in (heap_of heap.now) (spec.value_at arguments.now 0))) result }
-    ensures held { IfOk result (DeedHeld (heap_of heap.now)) }
+    ensures { Does (spec.truth (spec.is_frozen_in (heap_of heap.now) (spec.value_at arguments.now 0))) result }
 {
     match arguments {
         [Value::Object(object), ..] => Ok(truth(heap.is_frozen(*object))),
@@ -111,11 +94,9 @@ pub fn is_frozen(heap: &Heap, arguments: &[Value]) -> Result<Deed, Halt>
 
 /// `Object.keys` (20.1.2.19).
 pub fn keys(alloc: Global, heap: &Heap, arguments: &[Value]) -> Result<Deed, Halt>
-    requires { AllHeld (heap_of heap.now) arguments.now }
-    ensures does { Does (spec.keys_of arguments.now (heap_of heap.now)) result }
-    ensures held { IfOk result (DeedHeld (heap_of heap.now)) }
+    ensures { Does (spec.keys_of arguments.now (heap_of heap.now)) result }
 {
-    let object = first_object(heap, arguments)?;
+    let object = first_object(arguments)?;
     let keys = heap.keys(object)?;
     Ok(Deed::MakeArray(enumerable(alloc, keys.as_slice())?))
 }
@@ -140,9 +121,7 @@ pub fn has_own_property(
     this: &Value,
     arguments: &[Value],
 ) -> Result<Deed, Halt>
-    requires { Held (heap_of heap.now) this.now }
-    ensures does { Does (spec.has_own_property this.now arguments.now (heap_of heap.now)) result }
-    ensures held { IfOk result (DeedHeld (heap_of heap.now)) }
+    ensures { Does (spec.has_own_property this.now arguments.now (heap_of heap.now)) result }
 {
     let key = text_at(alloc, arguments, 0)?;
     Ok(truth(has_own(heap, this, &key)?))
@@ -150,7 +129,6 @@ pub fn has_own_property(
 
 /// Whether a value has a property of its own of this key.
 fn has_own(heap: &Heap, value: &Value, key: &Str) -> Result<bool, Halt>
-    requires { Held (heap_of heap.now) value.now }
     ensures { Does (spec.has_own (heap_of heap.now) value.now key.now) result }
 {
     match value {
@@ -172,9 +150,7 @@ fn text_has_own(heap: &Heap, text: &Str, key: &Str) -> Result<bool, Memory>
 
 /// `Array.isArray` (23.1.2.2).
 pub fn is_array_first(heap: &Heap, arguments: &[Value]) -> Result<Deed, Halt>
-    requires { AllHeld (heap_of heap.now) arguments.now }
-    ensures does { Does (spec.truth (spec.is_array_in (heap_of heap.now) (spec.value_at arguments.now 0))) result }
-    ensures held { IfOk result (DeedHeld (heap_of heap.now)) }
+    ensures { Does (spec.truth (spec.is_array_in (heap_of heap.now) (spec.value_at arguments.now 0))) result }
 {
     match arguments {
         [first, ..] => Ok(truth(is_array(heap, first))),

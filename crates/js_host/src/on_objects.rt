@@ -1,9 +1,6 @@
-ghost use Rattle.std.specs.Prelude.{◌≡◌, IfOk};
 ghost use Rattle.js_value.specs.OnObjects as spec;
 ghost use Rattle.js_heap.specs.Heap.{heap_of};
 ghost use Rattle.js_data.specs.Does.{Does};
-ghost use Rattle.js_host.specs.Held.{Held, AllHeld};
-ghost use Rattle.js_host.specs.private.Deeds.{DeedHeld};
 
 use crate::arrays::{concat, includes, index_of, join, pop, push, reverse, shift, slice, unshift};
 use crate::functions::{apply, call, function_to_string};
@@ -22,15 +19,12 @@ pub fn of_objects(
     this: &Value,
     arguments: &[Value],
 ) -> Result<Deed, Halt>
-    requires this { Held (heap_of heap.now) this.now }
-    requires arguments { AllHeld (heap_of heap.now) arguments.now }
-    ensures does { Does (spec.of_objects function this.now arguments.now (heap_of heap.now)) result }
-    ensures held { IfOk result (DeedHeld (heap_of heap.now)) }
+    ensures { Does (spec.of_objects function this.now arguments.now (heap_of heap.now)) result }
 {
     match function {
-        OnObjects::Assign => assign(alloc, heap, arguments),
-        OnObjects::Create => create(heap, arguments),
-        OnObjects::Freeze => freeze(heap, arguments),
+        OnObjects::Assign => assign(alloc, arguments),
+        OnObjects::Create => create(arguments),
+        OnObjects::Freeze => freeze(arguments),
         OnObjects::GetPrototypeOf => get_prototype_of(heap, arguments),
         OnObjects::IsFrozen => is_frozen(heap, arguments),
         OnObjects::Keys => keys(alloc, heap, arguments),

@@ -1,13 +1,9 @@
 // Deeds: what is done to the heap, and what is answered.
 
-ghost use Rattle.std.specs.Prelude.{◌≡◌, ◌≤◌, ◌++◌, IfOk, OnOk, codes};
+ghost use Rattle.std.specs.Prelude.{◌≡◌, ◌++◌, IfOk, OnOk, codes};
 ghost use Rattle.js_value.specs.Host as spec;
-ghost use Rattle.js_value.specs.Objects.{next_object};
-ghost use Rattle.js_value.specs.Realm.{built_in_count};
-ghost use Rattle.js_heap.specs.Heap.{heap_of, HoldsObject};
-ghost use Rattle.js_host.specs.Held.{AllHeld};
+ghost use Rattle.js_heap.specs.Heap.{heap_of};
 ghost use Rattle.js_host.specs.Native.{plain_native};
-ghost use Rattle.js_host.specs.private.Deeds.{DeedHeld};
 
 use crate::complaints::{error_of, message_of};
 use crate::copying::copy_values;
@@ -27,11 +23,8 @@ const HIDDEN: Flags = Flags {
 
 /// Does a deed. Only want of memory is an error.
 pub fn perform(alloc: Global, heap: &mut Heap, deed: Deed) -> Result<Native, Memory>
-    requires deed { DeedHeld (heap_of heap.old) deed }
-    requires realm { built_in_count ≤ next_object (heap_of heap.old) }
     ensures answer { IfOk result (λ native. plain_native native ≡ spec.given_by deed (heap_of heap.old)) }
     ensures after { OnOk result (heap_of heap.new ≡ spec.after_deed deed (heap_of heap.old)) }
-    ensures grows { next_object (heap_of heap.old) ≤ next_object (heap_of heap.new) }
 {
     match deed {
         Deed::Give(value) => Ok(Native::Value(value)),
@@ -75,10 +68,8 @@ fn line(alloc: Global, text: &Str) -> Result<Items<u8>, Memory>
 
 /// Puts elements after those of an array.
 fn append(heap: &mut Heap, array: Object, more: Items<Value>) -> Result<Native, Memory>
-    requires { HoldsObject (heap_of heap.old) array.index }
     ensures answer { IfOk result (λ native. plain_native native ≡ spec.given_by (Deed.Append array more) (heap_of heap.old)) }
     ensures after { OnOk result (heap_of heap.new ≡ spec.after_deed (Deed.Append array more) (heap_of heap.old)) }
-    ensures grows { next_object (heap_of heap.old) ≤ next_object (heap_of heap.new) }
 {
     let before = heap.elements(array).len();
     let added = more.len();
@@ -96,10 +87,8 @@ fn make_error(
     kind: ErrorKind,
     message: Option<Str>,
 ) -> Result<Native, Memory>
-    requires { built_in_count ≤ next_object (heap_of heap.old) }
     ensures answer { IfOk result (λ native. plain_native native ≡ spec.given_by (Deed.MakeError kind message) (heap_of heap.old)) }
     ensures after { OnOk result (heap_of heap.new ≡ spec.after_deed (Deed.MakeError kind message) (heap_of heap.old)) }
-    ensures grows { next_object (heap_of heap.old) ≤ next_object (heap_of heap.new) }
 {
     let error = heap.object(ObjectKind::Error, Some(error_prototype(kind)))?;
     if let Some(message) = message {
@@ -116,11 +105,8 @@ fn make_error(
 
 /// Writes to an object what others have.
 fn copy(alloc: Global, heap: &mut Heap, target: Object, sources: &[Value]) -> Result<Native, Memory>
-    requires target { HoldsObject (heap_of heap.old) target.index }
-    requires sources { AllHeld (heap_of heap.old) sources.now }
     ensures answer { IfOk result (λ native. plain_native native ≡ spec.given_by (Deed.Copy target sources.now) (heap_of heap.old)) }
     ensures after { OnOk result (heap_of heap.new ≡ spec.after_deed (Deed.Copy target sources.now) (heap_of heap.old)) }
-    ensures grows { next_object (heap_of heap.old) ≤ next_object (heap_of heap.new) }
 {
     match copy_values(heap, target, sources) {
         Ok(()) => Ok(Native::Value(Value::Object(target))),

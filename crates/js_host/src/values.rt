@@ -5,10 +5,8 @@ ghost use Rattle.js_value.specs.OnObjects as spec;
 ghost use Rattle.std.specs.Str.{bytes_eq};
 ghost use Rattle.js_value.specs.Objects as objects;
 ghost use Rattle.js_value.specs.Objects.{count_value};
-ghost use Rattle.js_heap.specs.Heap.{heap_of, HoldsObject};
+ghost use Rattle.js_heap.specs.Heap.{heap_of};
 ghost use Rattle.js_data.specs.Does.{Does};
-ghost use Rattle.js_host.specs.Held.{Held, AllHeld};
-ghost use Rattle.js_host.specs.private.Deeds.{DeedHeld};
 
 use items::{Items, Memory};
 use js_heap::{Heap, ObjectKind};
@@ -82,8 +80,7 @@ pub fn sum_of(length: usize, more: usize) -> Result<Value, Memory>
 
 /// The object that a value is; what is undefined or null complains, other primitive values aren't converted.
 pub fn object_of(value: &Value) -> Result<Object, Halt>
-    ensures does { Does (spec.object_of value.now) result }
-    ensures object { IfOk result (λ object. value.now ≡ Value.Object object) }
+    ensures { Does (spec.object_of value.now) result }
 {
     match value {
         Value::Object(object) => Ok(*object),
@@ -95,10 +92,8 @@ pub fn object_of(value: &Value) -> Result<Object, Halt>
 }
 
 /// The object that the first argument is.
-pub fn first_object(heap: &Heap, arguments: &[Value]) -> Result<Object, Halt>
-    requires { AllHeld (heap_of heap.now) arguments.now }
-    ensures does { Does (spec.object_of (spec.value_at arguments.now 0)) result }
-    ensures held { IfOk result (λ object. HoldsObject (heap_of heap.now) object.index) }
+pub fn first_object(arguments: &[Value]) -> Result<Object, Halt>
+    ensures { Does (spec.object_of (spec.value_at arguments.now 0)) result }
 {
     match arguments {
         [] => Err(Halt::Throw(Complaint::NotAnObject)),
@@ -108,9 +103,7 @@ pub fn first_object(heap: &Heap, arguments: &[Value]) -> Result<Object, Halt>
 
 /// The array that a value is.
 pub fn array_of(heap: &Heap, value: &Value) -> Result<Object, Halt>
-    requires { Held (heap_of heap.now) value.now }
-    ensures does { Does (spec.array_of (heap_of heap.now) value.now) result }
-    ensures held { IfOk result (λ object. HoldsObject (heap_of heap.now) object.index) }
+    ensures { Does (spec.array_of (heap_of heap.now) value.now) result }
 {
     match value {
         Value::Object(object) => match heap.kind(*object) {
@@ -123,7 +116,6 @@ pub fn array_of(heap: &Heap, value: &Value) -> Result<Object, Halt>
 
 /// Whether a value is an array.
 pub fn is_array(heap: &Heap, value: &Value) -> bool
-    requires { Held (heap_of heap.now) value.now }
     ensures { result ≡ spec.is_array_in (heap_of heap.now) value.now }
 {
     match value {
@@ -134,7 +126,6 @@ pub fn is_array(heap: &Heap, value: &Value) -> bool
 
 /// Whether a value is a function.
 pub fn is_function(heap: &Heap, value: &Value) -> bool
-    requires { Held (heap_of heap.now) value.now }
     ensures { result ≡ spec.is_function_in (heap_of heap.now) value.now }
 {
     match value {
@@ -148,10 +139,7 @@ pub fn is_function(heap: &Heap, value: &Value) -> bool
 
 /// A change, where the object may be changed.
 pub fn changes(heap: &Heap, object: Object, deed: Deed) -> Result<Deed, Halt>
-    requires object { HoldsObject (heap_of heap.now) object.index }
-    requires deed { DeedHeld (heap_of heap.now) deed }
-    ensures does { Does (spec.changes (heap_of heap.now) object deed) result }
-    ensures held { IfOk result (DeedHeld (heap_of heap.now)) }
+    ensures { Does (spec.changes (heap_of heap.now) object deed) result }
 {
     if heap.is_frozen(object) {
         return Err(Halt::Throw(Complaint::ReadOnly));
@@ -161,7 +149,6 @@ pub fn changes(heap: &Heap, object: Object, deed: Deed) -> Result<Deed, Halt>
 
 /// Whether a property is the length of an array.
 pub fn is_length_of_array(heap: &Heap, object: Object, key: &Str) -> bool
-    requires { HoldsObject (heap_of heap.now) object.index }
     ensures { result ≡ (objects.is_array (objects.kind_of (heap_of heap.now) object.index) && bytes_eq key.now objects.array_length) }
 {
     matches!(heap.kind(object), ObjectKind::Array) && key.as_slice() == LENGTH.as_slice()

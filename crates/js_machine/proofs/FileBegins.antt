@@ -9,7 +9,6 @@ use Rattle.js_value.specs.Objects.{next_object}
 use Rattle.js_value.specs.Environments.{next_environment}
 use Rattle.js_value.specs.Realm.{opening, realm}
 use Rattle.js_heap.specs.declared.environment.Env.{Env}
-use Rattle.js_heap.specs.Heap.{heap_of}
 use Rattle.js_code.specs.declared.node.Node.{Node}
 use Rattle.js_code.specs.Code.{reader, numbered, ReadsStmts}
 use Rattle.js_meaning.specs.Effects.{Comp, handle, exec}
@@ -22,20 +21,19 @@ use Rattle.js_meaning.specs.World.{meaning}
 use Rattle.js_machine.specs.declared.data.Control.TheVariants.{ExecuteAll}
 use Rattle.js_machine.specs.declared.data.Frame.{Frame}
 use Rattle.js_machine.specs.declared.data.Frame.TheVariants.{FileBody}
-use Rattle.js_machine.specs.declared.state.State.{State}
 use Rattle.js_machine.specs.private.Config.{view_of, plug}
-use Rattle.js_machine.specs.private.Moves.{here, todo}
+use Rattle.js_machine.specs.private.Moves.{todo}
 use Rattle.js_machine.specs.private.Opening.{Found, Opens, statements_of}
-use Rattle.js_machine.specs.private.State.{store_in}
+use Rattle.js_machine.specs.private.State.{Held, store_of}
 use Rattle.js_machine.specs.Whole.{Whole, AreSaid, Begins, running}
 
 -- a machine that has these statements before it
-pub opens : (statements : Stmts) (nodes : List Node) (frames : List Frame) (place : ℕ) (env : Env) (state : State) → frames ≡ FileBody ∷ [] →
+pub opens : (statements : Stmts) (nodes : List Node) (frames : List Frame) (place : ℕ) (env : Env) (h : Held) → frames ≡ FileBody ∷ [] →
     ((k : Numbers) → ReadsStmts nodes place (numbered statements k)) → env.index ≡ next_environment opening →
-    ((k : Numbers) → heap_of state.heap ≡ file_environment (next_object opening) (var_stmts (numbered statements k)) (file_objects opening)) →
-    state.output.items ≡ [] →
-    Opens statements (record { code = nodes; here = here frames (ExecuteAll place env) state; given = 0; lost = false })
-opens statements nodes frames place env state waits reads at heap printed = record {
+    ((k : Numbers) → h.heap ≡ file_environment (next_object opening) (var_stmts (numbered statements k)) (file_objects opening)) →
+    h.output ≡ [] →
+    Opens statements (record { code = nodes; here = record { frames = frames; control = ExecuteAll place env; state = h }; given = 0; lost = false })
+opens statements nodes frames place env h waits reads at heap printed = record {
   todo = λ p k.
       ap (λ fs. plug (view_of p nodes) fs (comp_stmts p ((reader nodes).stmts place) env.index)) waits
       ∙ ap (λ xs. handle (comp_stmts p xs env.index) after_body) (reads k).read
@@ -78,7 +76,7 @@ module _ (p : Sources) (path : List ℕ) (source : Source) (m : Whole) (found : 
 
   by : (at : LinkedAt (running p).files found.file (uncounted_source source)) (tree : File) → source.tree ≡ tree → (more : ℕ) →
       meaning (uncounted p) found.file (m.given + more)
-      ≡ exec (inside (running p)) more (todo (view_of (running p) m.code) m.here) (store_in began m.here.state)
+      ≡ exec (inside (running p)) more (todo (view_of (running p) m.code) m.here) (store_of began m.here.state)
   by at (MakeFile statements comments) is more =
       let q = running p in
       let k = from at.code in
@@ -89,8 +87,8 @@ module _ (p : Sources) (path : List ℕ) (source : Source) (m : Whole) (found : 
       ∙ ap (λ tree. exec (inside q) more (run_source q (record { path = source.path; tree = (link_file Unmarked tree k).tree; counted = false }) found.file) realm) is
       ∙ ap (λ xs. exec (inside q) more (body xs) (record began { heap = file_environment (next_object opening) (var_stmts (numbered xs k)) (file_objects opening) })) (sym (ap statements_of is))
       ∙ ap (λ (h : Heap). exec (inside q) more (body (statements_of source.tree)) (record began { heap = h })) (sym (opens.heap k))
-      ∙ ap (λ (out : List ℕ). exec (inside q) more (body (statements_of source.tree)) (record began { heap = heap_of m.here.state.heap; output = out })) (sym opens.printed)
-      ∙ ap (λ c. exec (inside q) more c (store_in began m.here.state)) (sym (opens.todo q k))
+      ∙ ap (λ (out : List ℕ). exec (inside q) more (body (statements_of source.tree)) (record began { heap = m.here.state.heap; output = out })) (sym opens.printed)
+      ∙ ap (λ c. exec (inside q) more c (store_of began m.here.state)) (sym (opens.todo q k))
 
   pub begins : Begins p path m
   begins = record {

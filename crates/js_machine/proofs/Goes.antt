@@ -11,13 +11,13 @@ use Rattle.js_machine.specs.declared.data.Rest.{Rest}
 use Rattle.js_machine.specs.private.Config.{view_of}
 use Rattle.js_machine.specs.private.Moves.{todo}
 use Rattle.js_machine.specs.private.Runs.{Runs, rest_outcome}
-use Rattle.js_machine.specs.private.State.{store_in}
+use Rattle.js_machine.specs.private.State.{store_of}
 use Rattle.js_machine.specs.Whole.{Whole, running, Follows, EndsAs, Goes}
 
 module _ (steps : ℕ) (old new : Whole) (rest : Rest) (end : End)
     (runs : (p : Sources) → Runs p (view_of p old.code) steps old.here rest new.here)
     (code : new.code ≡ old.code) (given : new.given ≡ old.given + steps)
-    (ended : (began : Store) → end ≡ end_of (rest_outcome rest) (store_in began new.here.state)) where
+    (ended : (began : Store) → end ≡ end_of (rest_outcome rest) (store_of began new.here.state)) where
   follows_on : (p : Sources) (path : List ℕ) → Follows p path old → Follows p path new
   follows_on p path f = record {
     file = f.file;
@@ -28,7 +28,7 @@ module _ (steps : ℕ) (old new : Whole) (rest : Rest) (end : End)
         ap (meaning (uncounted p) f.file) sum
         ∙ f.same (steps + more)
         ∙ (runs (running p)).takes.same f.began more
-        ∙ ap (λ nodes. exec (inside (running p)) more (todo (view_of (running p) nodes) new.here) (store_in f.began new.here.state)) (sym code);
+        ∙ ap (λ nodes. exec (inside (running p)) more (todo (view_of (running p) nodes) new.here) (store_of f.began new.here.state)) (sym code);
   }
 
   ends_as : (p : Sources) (path : List ℕ) → Follows p path old → EndsAs p path end new

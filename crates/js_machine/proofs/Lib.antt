@@ -2,13 +2,11 @@ mod Acts
 mod Entries
 mod FileBegins
 mod Goes
-mod Kept
 mod Lists
 mod Moves
 mod Natives
 mod Opened
 mod Operators
-mod Outside
 mod Places
 mod Plug
 mod Runs

@@ -16,7 +16,7 @@ use Rattle.js_machine.specs.declared.data.Step.{Step}
 use Rattle.js_machine.specs.declared.state.State.{State}
 use Rattle.js_machine.specs.private.Config.{View, action_comp, action_weight, control_comp, control_weight, step_comp, step_weight, frame_comp, frame_weight, frames_weight, plug}
 use Rattle.js_machine.specs.private.Moves.{Here, here, Leads, Moves, Rests, IsAt, rest_control}
-use Rattle.js_machine.specs.private.State.{store_in, Becomes}
+use Rattle.js_machine.specs.private.State.{Held, held, store_in, Becomes}
 use Rattle.js_machine.proofs.Plug.{plug_push, plug_becomes, frames_weight-push}
 
 -- a program: how much work is left is the same in each
@@ -101,9 +101,9 @@ stays (rest.Refused k) at fs h = h
 stays (rest.Asks e) at fs h = h
 
 pub rests_at : (t : View) (a : Here) (r : Rest) (at : Control) (fs fs' : List Frame) (s s' : State) →
-    Leads t a (here fs at s) → IsAt r at fs' → fs' ≡ fs → s' ≡ s → Rests t a r fs' s'
+    Leads t a (here fs at s) → IsAt r at fs' → fs' ≡ fs → held s' ≡ held s → Rests t a r fs' s'
 rests_at t a r at fs fs' s s' leads is same_frames same_state =
     let e : here fs at s ≡ here fs' (rest_control r) s' =
-    ap (λ f. here f at s) (sym same_frames) ∙ ap (λ c. here fs' c s) (stays r at fs' is) ∙ ap (here fs' (rest_control r)) (sym same_state)
+    ap (λ f. here f at s) (sym same_frames) ∙ ap (λ c. here fs' c s) (stays r at fs' is) ∙ ap (λ (h : Held). record { frames = fs'; control = rest_control r; state = h }) (sym same_state)
     in
     (subst (Leads t a) e leads, subst (λ c. IsAt r c fs') (stays r at fs' is) is)

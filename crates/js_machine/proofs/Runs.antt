@@ -15,7 +15,7 @@ use Rattle.js_machine.specs.declared.state.State.{State}
 use Rattle.js_machine.specs.private.Config.{View, control_comp, step_comp, entry_of, plug}
 use Rattle.js_machine.specs.private.Moves.{Here, here, todo, Leads, Rests, rest_control}
 use Rattle.js_machine.specs.private.Runs.{Takes, Runs, rest_outcome}
-use Rattle.js_machine.specs.private.State.{store_in, Becomes}
+use Rattle.js_machine.specs.private.State.{store_in, store_of, Becomes}
 use Rattle.js_machine.proofs.Plug.{plug_refuse, plug_becomes, exec_enters, exec_stops}
 
 module _ (p : Sources) (t : View) where
@@ -23,7 +23,7 @@ module _ (p : Sources) (t : View) where
   takes_none a = record {
     same = λ base n.
         let e : 0 + n ≡ n = omega arith in
-        ap (λ m. exec (inside p) m (todo t a) (store_in base a.state)) e;
+        ap (λ m. exec (inside p) m (todo t a) (store_of base a.state)) e;
   }
 
   pub takes_leads : (i : ℕ) (a b c : Here) → Takes p t i a b → Leads t b c → Takes p t i a c
@@ -41,7 +41,7 @@ module _ (p : Sources) (t : View) where
       record {
         same = λ base n.
             let more : i + 1 + n ≡ i + (n + 1) = omega arith in
-            ap (λ m. exec (inside p) m (todo t a) (store_in base a.state)) more
+            ap (λ m. exec (inside p) m (todo t a) (store_of base a.state)) more
             ∙ y.same base (n + 1)
             ∙ exec_enters t fs (entry_of t e) (inside p) n (store_in base s)
             ∙ plug_becomes t fs (inside p (entry_of t e)) (store_in base s) (step_comp t step) (store_in base u) (becomes base) (inside p) n
@@ -82,7 +82,7 @@ module _ (p : Sources) (t : View) where
         takes = record {
           same = λ base n.
               let e : steps + n ≡ i + (steps - i + n) = omega arith in
-              ap (λ m. exec (inside p) m (todo t a) (store_in base a.state)) e
+              ap (λ m. exec (inside p) m (todo t a) (store_of base a.state)) e
               ∙ y.same base (steps - i + n) ∙ o base (steps - i + n) ∙ sym (o base n);
         };
         ends = ends_now r fs s (same_rest r b fs s rests);

@@ -11,7 +11,7 @@ use Rattle.js_meaning.specs.Files.{inside}
 use Rattle.js_meaning.specs.World.{meaning, PlainRun, plain}
 use Rattle.js_machine.specs.private.Config.{view_of}
 use Rattle.js_machine.specs.private.Moves.{Here, todo}
-use Rattle.js_machine.specs.private.State.{store_in}
+use Rattle.js_machine.specs.private.State.{store_of}
 
 -- the code, where the machine is in it, how many steps it was given, and whether it wanted memory
 pub record Whole : Type 0 where
@@ -21,7 +21,7 @@ pub record Whole : Type 0 where
   pub lost : Bool
 
 abbrev pub output_of : Whole → List ℕ
-output_of m = m.here.state.output.items
+output_of m = m.here.state.output
 
 -- the program as it runs where nothing is counted
 abbrev pub running : Sources → Sources
@@ -38,7 +38,7 @@ pub record Follows (p : Sources) (path : List ℕ) (m : Whole) : Type 0 where
   pub found : file_at p path ≡ Some file
   pub began : Store
   pub same : (more : ℕ) → meaning (uncounted p) file (m.given + more)
-      ≡ exec (inside (running p)) more (todo (view_of (running p) m.code) m.here) (store_in began m.here.state)
+      ≡ exec (inside (running p)) more (todo (view_of (running p) m.code) m.here) (store_of began m.here.state)
 
 -- it stands at the beginning of the file at the path, and has printed nothing
 pub record Begins (p : Sources) (path : List ℕ) (m : Whole) : Type 0 where

@@ -1,6 +1,5 @@
 -- What the contracts of private functions name: no reader has to believe it.
 pub mod Config
-pub mod Errors
 pub mod Moves
 pub mod Opening
 pub mod Runs

@@ -7,10 +7,9 @@ ghost use Rattle.js_tree.specs.Tree.{plain_file};
 ghost use Rattle.js_value.specs.Realm.{opening as the_opening};
 ghost use Rattle.js_value.specs.Objects.{next_object};
 ghost use Rattle.js_value.specs.Environments.{declare as declared, next_environment};
-ghost use Rattle.js_heap.specs.Heap.{heap_of, HoldsEnvironment};
+ghost use Rattle.js_heap.specs.Heap.{heap_of};
 ghost use Rattle.js_meaning.specs.Files.{declare_all, file_environment, file_objects, once, variable, variables};
 ghost use Rattle.js_meaning.specs.Program.{sources_of, source_of, file_at};
-ghost use Rattle.js_machine.specs.private.Errors.{HoldsErrors};
 ghost use Rattle.js_machine.specs.private.Opening.{Found};
 
 use items::{Items, Memory};
@@ -47,7 +46,6 @@ pub fn heap_of_file(alloc: Global, names: &[Name]) -> Result<(Heap, Env), Memory
     ensures heap { IfOk result (λ made. (declared : List (List ℕ)) → names.now ≡ once (codes "exports" ∷ codes "module" ∷ []) declared →
         heap_of made.0 ≡ file_environment (next_object the_opening) declared (file_objects the_opening)) }
     ensures environment { IfOk result (λ made. made.1.index ≡ next_environment the_opening) }
-    ensures errors { IfOk result (λ made. HoldsErrors (heap_of made.0)) }
 {
     let mut heap = realm(alloc)?;
     let (exports, module) = make_objects(alloc, &mut heap)?;
@@ -60,10 +58,9 @@ pub fn heap_of_file(alloc: Global, names: &[Name]) -> Result<(Heap, Env), Memory
 
 /// Makes the objects `exports` and `module` of a file.
 fn make_objects(alloc: Global, heap: &mut Heap) -> Result<(Object, Object), Memory>
-    requires { heap_of heap.old ≡ the_opening }
-    ensures made { OnOk result (heap_of heap.new ≡ file_objects the_opening) }
-    ensures exports { IfOk result (λ made. made.0.index ≡ next_object the_opening) }
-    ensures module_object { IfOk result (λ made. made.1.index ≡ next_object the_opening + 1) }
+    ensures made { OnOk result (heap_of heap.new ≡ file_objects (heap_of heap.old)) }
+    ensures exports { IfOk result (λ made. made.0.index ≡ next_object (heap_of heap.old)) }
+    ensures module_object { IfOk result (λ made. made.1.index ≡ next_object (heap_of heap.old) + 1) }
 {
     let exports = heap.object(ObjectKind::Plain, Some(object_at(Place::ObjectPrototype)))?;
     let module = heap.object(ObjectKind::Plain, Some(object_at(Place::ObjectPrototype)))?;
@@ -78,7 +75,6 @@ fn make_objects(alloc: Global, heap: &mut Heap) -> Result<(Object, Object), Memo
 
 /// Declares a name of the environment that may be assigned to.
 fn declare(alloc: Global, heap: &mut Heap, env: Env, name: &str, value: Value) -> Result<(), Memory>
-    requires { HoldsEnvironment (heap_of heap.old) env.index }
     ensures { OnOk result (heap_of heap.new ≡ declared env.index (variable name.now value) (heap_of heap.old)) }
 {
     heap.declare(env, &Name::from_str(alloc, name)?, Some(value), false)?;
@@ -87,7 +83,6 @@ fn declare(alloc: Global, heap: &mut Heap, env: Env, name: &str, value: Value) -
 
 /// Declares names of the environment, each with the value undefined.
 fn declare_names(heap: &mut Heap, env: Env, names: &[Name]) -> Result<(), Memory>
-    requires { HoldsEnvironment (heap_of heap.old) env.index }
     ensures { OnOk result (heap_of heap.new ≡ declare_all env.index (variables names.now) (heap_of heap.old)) }
 {
     for name in names {

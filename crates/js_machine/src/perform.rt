@@ -7,12 +7,11 @@ ghost use Rattle.js_value.specs.Host as host;
 ghost use Rattle.js_value.specs.Realm.{object as object_of};
 ghost use Rattle.js_code.specs.Code.{node_at};
 ghost use Rattle.js_value.specs.Environments.{lookup as heap_lookup};
-ghost use Rattle.js_heap.specs.Heap.{heap_of, HoldsEnvironment, HoldsObject};
+ghost use Rattle.js_heap.specs.Heap.{heap_of};
 ghost use Rattle.js_meaning.specs.Program.{Sources};
 ghost use Rattle.js_meaning.specs.Meaning as meaning;
 ghost use Rattle.js_meaning.specs.Meaning.{value_in, call_kind};
 ghost use Rattle.js_machine.specs.private.Config.{View, view_of, name_of, action_comp, action_weight, control_comp, control_weight};
-ghost use Rattle.js_machine.specs.private.Errors.{HoldsErrors};
 ghost use Rattle.js_machine.specs.private.State.{store_in, with_heap, Becomes};
 ghost use Rattle.js_code.specs.Node.{Reader};
 
@@ -29,7 +28,6 @@ use std::alloc::Global;
 
 // The value of a name, or the error that there is none.
 fn read(heap: &Heap, name: &Name, env: Env) -> Result<Control, Memory>
-    requires { HoldsEnvironment (heap_of heap.now) env.index }
     ensures means { IfOk result (λ control. (t : View) → control_comp t control
         ≡ value_in (heap_of heap.now) (heap_lookup (heap_of heap.now) env.index name.now)) }
     ensures less { IfOk result (λ control. (t : Reader) → control_weight t control < 3) }
@@ -45,10 +43,8 @@ fn read(heap: &Heap, name: &Name, env: Env) -> Result<Control, Memory>
 
 // A value for a name, or the error that it has no cell for it or may not take it.
 fn write(heap: &mut Heap, name: &Name, env: Env, value: Value) -> Result<Control, Memory>
-    requires { HoldsEnvironment (heap_of heap.old) env.index }
     ensures means { IfOk result (λ control. (t : View) (base : Store) →
         Becomes (meaning.write name.now env.index value) (with_heap base heap.old) (control_comp t control) (with_heap base heap.new)) }
-    ensures objects { (heap_of heap.new).objects ≡ (heap_of heap.old).objects }
     ensures less { IfOk result (λ control. (t : Reader) → control_weight t control < 3) }
 {
     let Some(cell) = heap.lookup(env, name) else {
@@ -64,7 +60,6 @@ fn write(heap: &mut Heap, name: &Name, env: Env, value: Value) -> Result<Control
 
 // A call of an object: what is no function is not callable.
 fn call(heap: &Heap, callee: Object, this: Value, arguments: Items<Value>) -> Control
-    requires { HoldsObject (heap_of heap.now) callee.index }
     ensures means { (t : View) → control_comp t result ≡ call_kind (kind_of (heap_of heap.now) callee.index) callee.index this arguments }
     ensures less { (t : Reader) → control_weight t result < 3 }
 {
@@ -94,8 +89,6 @@ fn make_error(
     kind: ErrorKind,
     message: Str,
 ) -> Result<Object, Memory>
-    requires { HoldsErrors (heap_of heap.old) }
-    ensures errors { HoldsErrors (heap_of heap.new) }
     ensures made { OnOk result (heap_of heap.new ≡ meaning.make_error kind message (heap_of heap.old)) }
     ensures object { IfOk result (λ object. object.index ≡ next_object (heap_of heap.old)) }
 {
@@ -112,45 +105,6 @@ fn make_error(
         flags,
     )?;
     Ok(object)
-}
-
-// The value of a name, where the environment may be none of this heap: then no name is found.
-fn read_anywhere(heap: &Heap, name: &Name, env: Env) -> Result<Control, Memory>
-    ensures means { IfOk result (λ control. (t : View) → control_comp t control
-        ≡ value_in (heap_of heap.now) (heap_lookup (heap_of heap.now) env.index name.now)) }
-    ensures less { IfOk result (λ control. (t : Reader) → control_weight t control < 3) }
-{
-    if heap.holds_environment(env) {
-        read(heap, name, env)
-    } else {
-        Ok(Control::Do(Action::Throw(Complaint::NotDefined)))
-    }
-}
-
-// The same of a write.
-fn write_anywhere(heap: &mut Heap, name: &Name, env: Env, value: Value) -> Result<Control, Memory>
-    ensures means { IfOk result (λ control. (t : View) (base : Store) →
-        Becomes (meaning.write name.now env.index value) (with_heap base heap.old) (control_comp t control) (with_heap base heap.new)) }
-    ensures objects { (heap_of heap.new).objects ≡ (heap_of heap.old).objects }
-    ensures less { IfOk result (λ control. (t : Reader) → control_weight t control < 3) }
-{
-    if heap.holds_environment(env) {
-        write(heap, name, env, value)
-    } else {
-        Ok(Control::Do(Action::Throw(Complaint::NotDefined)))
-    }
-}
-
-// The same of a call: what is no object of this heap is not callable.
-fn call_anything(heap: &Heap, callee: Object, this: Value, arguments: Items<Value>) -> Control
-    ensures means { (t : View) → control_comp t result ≡ call_kind (kind_of (heap_of heap.now) callee.index) callee.index this arguments }
-    ensures less { (t : Reader) → control_weight t result < 3 }
-{
-    if heap.holds_object(callee) {
-        call(heap, callee, this, arguments)
-    } else {
-        Control::Do(Action::Throw(Complaint::NotAFunction))
-    }
 }
 
 // The name of the node at a place, if it has one.
@@ -189,10 +143,10 @@ fn read_at(
     ensures less { IfOk result (λ control. (t : Reader) → control_weight t control < 3) }
 {
     match name_at(code, place) {
-        Some(name) => read_anywhere(heap, name, env),
+        Some(name) => read(heap, name, env),
         None => {
             let nameless = Name::from_str(alloc, "")?;
-            read_anywhere(heap, &nameless, env)
+            read(heap, &nameless, env)
         }
     }
 }
@@ -208,14 +162,13 @@ fn write_at(
 ) -> Result<Control, Memory>
     ensures means { IfOk result (λ control. (t : View) (base : Store) →
         Becomes (meaning.write (name_of (node_at code.now place)) env.index value) (with_heap base heap.old) (control_comp t control) (with_heap base heap.new)) }
-    ensures objects { (heap_of heap.new).objects ≡ (heap_of heap.old).objects }
     ensures less { IfOk result (λ control. (t : Reader) → control_weight t control < 3) }
 {
     match name_at(code, place) {
-        Some(name) => write_anywhere(heap, name, env, value),
+        Some(name) => write(heap, name, env, value),
         None => {
             let nameless = Name::from_str(alloc, "")?;
-            write_anywhere(heap, &nameless, env, value)
+            write(heap, &nameless, env, value)
         }
     }
 }
@@ -227,10 +180,8 @@ pub fn throw_error(
     kind: ErrorKind,
     message: Str,
 ) -> Result<Control, Memory>
-    requires { HoldsErrors (heap_of heap.old) }
     ensures made { OnOk result (heap_of heap.new ≡ meaning.make_error kind message (heap_of heap.old)) }
     ensures control { IfOk result (λ control. control ≡ Control.Give (Completion.Throw (object_of (next_object (heap_of heap.old))))) }
-    ensures errors { HoldsErrors (heap_of heap.new) }
 {
     let object = make_error(alloc, heap, kind, message)?;
     Ok(Control::Give(Completion::Throw(Value::Object(object))))
@@ -238,11 +189,9 @@ pub fn throw_error(
 
 // Throws the error of a complaint.
 fn throw(alloc: Global, heap: &mut Heap, complaint: Complaint) -> Result<Control, Memory>
-    requires { HoldsErrors (heap_of heap.old) }
     ensures made { OnOk result (heap_of heap.new
         ≡ meaning.make_error (host.error_of complaint) (host.message_of complaint) (heap_of heap.old)) }
     ensures control { IfOk result (λ control. control ≡ Control.Give (Completion.Throw (object_of (next_object (heap_of heap.old))))) }
-    ensures errors { HoldsErrors (heap_of heap.new) }
 {
     let message = message_of(alloc, complaint)?;
     throw_error(alloc, heap, error_of(complaint), message)
@@ -274,7 +223,7 @@ pub fn perform(
             callee,
             this,
             arguments,
-        } => Ok(call_anything(&state.heap, callee, this, arguments)),
+        } => Ok(call(&state.heap, callee, this, arguments)),
         Action::Throw(complaint) => throw(alloc, &mut state.heap, complaint),
     }
 }

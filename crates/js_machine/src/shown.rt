@@ -6,7 +6,7 @@ ghost use Rattle.js_value.specs.Objects.{kind_of, get};
 ghost use Rattle.js_value.specs.Operators.{to_text as texted, Reads, NoText};
 ghost use Rattle.js_value.specs.declared.value.Kind.{Kind};
 ghost use Rattle.js_heap.specs.Object.{plain_kind};
-ghost use Rattle.js_heap.specs.Heap.{heap_of, HoldsObject};
+ghost use Rattle.js_heap.specs.Heap.{heap_of};
 ghost use Rattle.js_meaning.specs.World as spec;
 ghost use Rattle.js_meaning.specs.World.{shown_kind, titled};
 
@@ -40,9 +40,6 @@ fn shown_units(alloc: Global, heap: &Heap, value: &Value) -> Result<Str, Memory>
 fn shown_object(alloc: Global, heap: &Heap, object: Object) -> Result<Str, Memory>
     ensures { IfOk result (λ units. units ≡ spec.shown_object (heap_of heap.now) object.index (kind_of (heap_of heap.now) object.index)) }
 {
-    if !heap.holds_object(object) {
-        return ascii(alloc, b"object");
-    }
     match heap.kind(object) {
         ObjectKind::Error => shown_error(alloc, heap, object),
         kind => ascii(alloc, kind_word(kind)),
@@ -51,7 +48,6 @@ fn shown_object(alloc: Global, heap: &Heap, object: Object) -> Result<Str, Memor
 
 // What is shown of an error: its name, and its message where that isn't empty.
 fn shown_error(alloc: Global, heap: &Heap, object: Object) -> Result<Str, Memory>
-    requires { HoldsObject (heap_of heap.now) object.index }
     ensures { IfOk result (λ units. units ≡ titled (spec.shown_part (heap_of heap.now) (get (heap_of heap.now) object.index (codes "name")))
         (spec.shown_part (heap_of heap.now) (get (heap_of heap.now) object.index (codes "message")))) }
 {
@@ -75,11 +71,7 @@ fn shown_part(alloc: Global, heap: &Heap, part: Option<&Value>) -> Result<Str, M
 fn shown_word(alloc: Global, heap: &Heap, object: Object) -> Result<Str, Memory>
     ensures { IfOk result (λ units. units ≡ shown_kind (kind_of (heap_of heap.now) object.index)) }
 {
-    if heap.holds_object(object) {
-        ascii(alloc, kind_word(heap.kind(object)))
-    } else {
-        ascii(alloc, b"object")
-    }
+    ascii(alloc, kind_word(heap.kind(object)))
 }
 
 // The word for an object of this kind.

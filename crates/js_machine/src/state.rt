@@ -1,6 +1,3 @@
-ghost use Rattle.js_heap.specs.Heap.{heap_of};
-ghost use Rattle.js_machine.specs.private.Errors.{HoldsErrors};
-
 use js_heap::Heap;
 
 /// Everything that a program can change.
@@ -10,5 +7,4 @@ pub struct State {
     pub heap: Heap,
     /// What it printed.
     pub output: Vec<u8>,
-    ghost errors: { HoldsErrors (heap_of heap) },
 }

@@ -11,7 +11,6 @@ use Rattle.js_tree.specs.Plain.{Declarator, MakeDeclarator, Declarators, no_decl
 use Rattle.js_tree.specs.Mark.{Mark}
 use Rattle.js_value.specs.declared.value.Value.{Value}
 use Rattle.js_value.specs.declared.value.Value.TheVariants as value
-use Rattle.js_value.specs.declared.value.Primitive.{Primitive}
 use Rattle.js_value.specs.Operators.{Answer, Gives, Refuses, binary, to_boolean, has_answer}
 use Rattle.js_value.specs.Numbers.{literal_value}
 use Rattle.js_value.specs.State.{ObjectKind, Plain, Array, Error, RegExp, BuiltIn, Written, Heap, Store}
@@ -245,7 +244,7 @@ pub grows_inside : (p : Sources) (e : Entry) → Grows (F.inside p e)
 grows_inside p (E.Call code env this arguments) = grows_unsaid
 grows_inside p (E.CallBuiltIn callee function maker this arguments) = λ s. (
   record { output = same_list s.output; log = same_list s.log },
-  grows_if (F.can_call this arguments s.heap) _ _ (grows_native (native_of function (is_some maker) this arguments s.heap)) grows_unsaid,
+  grows_native (native_of function (is_some maker) this arguments s.heap),
 )
 grows_inside p (E.Turn x labels env) = grows_a_turn p x labels env
 grows_inside p (E.Construct mark) = λ s. (record { output = same_list s.output; log = longer s.log (mark ∷ []) }, tt)

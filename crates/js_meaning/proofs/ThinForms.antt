@@ -311,7 +311,7 @@ module _ (p : Sources) where
     thin_inside e f unsaids = thin_done
     thin_inside e f (calls code env this arguments) = thin_unsaid
     thin_inside e f (natives callee function maker this arguments) = acts (λ s. refl) (λ log started s. refl) (λ log started s.
-        if_thin (F.can_call this arguments s.heap) (thin_native (native_of function (is_some maker) this arguments s.heap)) thin_unsaid)
+        thin_native (native_of function (is_some maker) this arguments s.heap))
     thin_inside e f (while_turns loc test body labels env) = handle_thin p (thin_stmt body [] env) (thin_after_turn labels (thin_stmt (While loc test body) labels env))
 
     thin_after_body : (c : Completion) → Thin p (F.after_body c) (F.after_body c)

@@ -1,16 +1,14 @@
 -- What a step is for, and how a file begins (ECMA-262, 10.2.11; the body of a CommonJS file).
-use Rattle.std.specs.Prelude.{ℕ, ◌+◌, Bool, true, false, ◌&&◌, nat_le, nat_lt, List, [], ◌∷◌, map, Option, Some, None, is_some, slice_get, codes, if◌then◌else◌}
-use Rattle.std.specs.List.{list_all}
+use Rattle.std.specs.Prelude.{ℕ, ◌+◌, false, List, [], ◌∷◌, map, Option, Some, None, is_some, slice_get, codes, if◌then◌else◌}
 use Rattle.js_tree.specs.Plain as P
 use Rattle.js_tree.specs.Plain.{MakeFile}
 use Rattle.js_value.specs.declared.value.Value.{Value}
-use Rattle.js_value.specs.declared.value.Value.TheVariants as value
 use Rattle.js_value.specs.declared.built_in.Place.TheVariants.{ObjectPrototype}
 use Rattle.js_value.specs.State.{Plain, Binding, Heap, Store}
 use Rattle.js_value.specs.Objects.{next_object, new_object, define, assigned}
 use Rattle.js_value.specs.Environments.{next_environment, new_environment, declare}
 use Rattle.js_value.specs.Running.{on_heap, write, note, start, put_in_cache}
-use Rattle.js_value.specs.Realm.{number_of, built_in_count, global_environment, object, undefined}
+use Rattle.js_value.specs.Realm.{number_of, global_environment, object, undefined}
 use Rattle.js_value.specs.Host.{Native, Answers, Throws, Refuses, Writes, Calls, Requires, native_of, native_heap}
 use Rattle.js_meaning.specs.declared.outcome.Completion.{Completion}
 use Rattle.js_meaning.specs.declared.outcome.Completion.TheVariants.{Normal, Break, Continue, Return, Throw}
@@ -30,23 +28,11 @@ native (Writes bytes) = act (write bytes) (λ s. done)
 native (Calls function this arguments) = unsaid
 native (Requires text) = unsaid
 
--- a reference is to an object of the heap
-abbrev pub is_held : Heap → Value → Bool
-is_held h (value.Object o) = nat_lt o.index (next_object h)
-is_held h (value.Primitive p) = true
-
--- the built-in objects are there, and the references are to objects of the heap: nothing is said of any others
-abbrev pub can_call : Value → List Value → Heap → Bool
-can_call this arguments h = nat_le built_in_count (next_object h) && is_held h this && list_all (is_held h) arguments
-
-abbrev pub heap_after : ℕ → Bool → Value → List Value → Heap → Heap
-heap_after function constructing this arguments h =
-    if can_call this arguments h then native_heap function constructing this arguments h else h
-
+-- its answer is that of the heap before the call
 abbrev pub call_native : ℕ → ℕ → Option ℕ → Value → List Value → Comp
 call_native callee function maker this arguments = act
-    (on_heap (heap_after function (is_some maker) this arguments))
-    (λ s. if can_call this arguments s.heap then native (native_of function (is_some maker) this arguments s.heap) else unsaid)
+    (on_heap (native_heap function (is_some maker) this arguments))
+    (λ s. native (native_of function (is_some maker) this arguments s.heap))
 
 -- Files
 

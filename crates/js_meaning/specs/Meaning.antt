@@ -13,7 +13,6 @@ use Rattle.js_tree.specs.Plain.{Stmt, Directive, Block, VariableDeclaration, Emp
 use Rattle.js_tree.specs.Plain.{Declarator, MakeDeclarator, Declarators, no_declarator, more_declarator, Pattern, BindingIdentifier, MaybeExpr, none_expr, some_expr}
 use Rattle.js_value.specs.declared.value.Value.{Value}
 use Rattle.js_value.specs.declared.value.Value.TheVariants as value
-use Rattle.js_value.specs.declared.value.Primitive.{Primitive}
 use Rattle.js_value.specs.declared.value.Primitive.TheVariants as primitive
 use Rattle.js_value.specs.declared.value.Kind.TheVariants as kind
 use Rattle.js_value.specs.Numbers.{literal_value}

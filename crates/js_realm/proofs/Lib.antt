@@ -1,2 +1,1 @@
 mod OpeningLemmas
-mod Sizes

@@ -1,11 +1,9 @@
 -- The steps by which the opening realm is made.
-use Rattle.std.proofs.Common.{◌≡◌, ℕ, zero, suc, ◌<◌, ◌≤◌, ◌+◌, ◌-◌, Bool, true, false, ◌&&◌, IsTrue, nat_lt, List, [], ◌∷◌, length, drop, get_or, map, drop-cons, add-one, sym, ap, ◌∙◌, subst, arith}
-use Rattle.std.proofs.lemmas.Bool.Decides.{nat_tests}
+use Rattle.std.proofs.Common.{◌≡◌, ℕ, suc, ◌<◌, ◌≤◌, ◌+◌, ◌-◌, List, length, drop, get_or, map, drop-cons, add-one, sym, ap, ◌∙◌, arith}
 use Rattle.std.proofs.Math.ListN.{drop_of_length-le}
 use Rattle.std.proofs.lemmas.List.{length-map, get_or-map}
 use Rattle.js_value.specs.State.{Heap}
-use Rattle.js_value.specs.Realm.{Row, number_of, parent_of, each, freeze_all, freeze_one}
-use Rattle.js_realm.specs.private.Opening.{parents_first}
+use Rattle.js_value.specs.Realm.{each, freeze_all, freeze_one}
 
 -- none is left
 pub no_more : {A : Type 0} (step : ℕ → A → Heap → Heap) (xs : List A) (i : ℕ) (h t : Heap) → length xs ≤ i → each step i (drop i xs) h ≡ t → h ≡ t
@@ -42,29 +40,3 @@ one_more step f xs i d h g t lt so_far is =
 -- none of it is left
 pub none_more : {X A : Type 0} (step : ℕ → A → Heap → Heap) (f : X → A) (xs : List X) (i : ℕ) (h t : Heap) → length xs ≤ i → each step i (drop i (map f xs)) h ≡ t → h ≡ t
 none_more step f xs i h t le so_far = let past : length (map f xs) ≤ i = rw length-map le in no_more step (map f xs) i h t past so_far
-
-both_true : (a b : Bool) → IsTrue (a && b) → IsTrue a × IsTrue b
-both_true true true t = (t, t)
-both_true true false t = grind arith
-both_true false b t = grind arith
-
-is_less : (m n : ℕ) → IsTrue (nat_lt m n) → m < n
-is_less m n t = grind (arith, nat_tests)
-
--- what a function inherits from is made before it
-pub parent_before : (n i : ℕ) (rows : List Row) (d : Row) → IsTrue (parents_first n rows) → i < length rows → number_of (parent_of (get_or rows i d).function) < n + i
-parent_before n i [] d t lt = absurd (omega arith)
-parent_before n zero (row ∷ rows) d t lt =
-    let first = is_less (number_of (parent_of row.function)) n (both_true (nat_lt (number_of (parent_of row.function)) n) (parents_first (suc n) rows) t).0 in
-    omega arith
-parent_before n (suc i) (row ∷ rows) d t lt =
-    let more = parent_before (suc n) i rows d (both_true (nat_lt (number_of (parent_of row.function)) n) (parents_first (suc n) rows) t).1 (omega arith) in
-    omega arith
-
--- as the code reads the table
-pub parent_held : {X : Type 0} (f : X → Row) (n i m : ℕ) (xs : List X) (d : X) → IsTrue (parents_first n (map f xs)) → i < length xs → m ≡ n + i →
-    number_of (parent_of (f (get_or xs i d)).function) < m
-parent_held f n i m xs d t lt is =
-    let within : i < length (map f xs) = rw length-map lt in
-    let before = parent_before n i (map f xs) (f d) t within in
-    rw is (subst (λ row. number_of (parent_of row.function) < n + i) (get_or-map f xs i d (f d) lt) before)

@@ -1,5 +1,4 @@
-ghost use Rattle.std.specs.Prelude.{◌≡◌, ◌≤◌, ◌<◌, ◌+◌, map, IsTrue, IfOk, OnOk, length, option_map};
-ghost use Rattle.std.specs.Option.{ForSome};
+ghost use Rattle.std.specs.Prelude.{◌≡◌, ◌≤◌, ◌<◌, ◌+◌, map, IfOk, OnOk, length, option_map};
 ghost use Rattle.js_value.specs.State.{Plain};
 ghost use Rattle.js_value.specs.Objects as objects;
 ghost use Rattle.js_value.specs.Objects.{next_object, new_object};
@@ -7,8 +6,8 @@ ghost use Rattle.js_value.specs.Environments.{declare};
 ghost use Rattle.js_value.specs.declared.built_in.TheConstants as tables;
 ghost use Rattle.js_value.specs.Realm as spec;
 ghost use Rattle.js_heap.specs.Object.{property_with};
-ghost use Rattle.js_heap.specs.Heap.{heap_of, HoldsObject, HoldsEnvironment};
-ghost use Rattle.js_realm.specs.private.Opening.{NoArrays, IsOfSize, SameSize, row_seen, error_seen, named_seen, parents_first};
+ghost use Rattle.js_heap.specs.Heap.{heap_of};
+ghost use Rattle.js_realm.specs.private.Opening.{row_seen, error_seen, named_seen};
 
 use crate::places::{global_environment, object_at};
 use items::Memory;
@@ -61,9 +60,7 @@ pub fn realm(alloc: Global) -> Result<Heap, Memory>
 
 /// Makes the objects that aren't functions.
 fn make_objects(heap: &mut Heap) -> Result<(), Memory>
-    requires { heap_of heap.old ≡ spec.empty_heap }
-    ensures made { OnOk result (heap_of heap.new ≡ spec.each spec.make_object 0 tables.PROTOTYPES (heap_of heap.old)) }
-    ensures size { OnOk result (IsOfSize spec.first_function (heap_of heap.new)) }
+    ensures { OnOk result (heap_of heap.new ≡ spec.each spec.make_object 0 tables.PROTOTYPES (heap_of heap.old)) }
 {
     for row in &PROTOTYPES {
         make_object(heap, row.1)?;
@@ -73,11 +70,8 @@ fn make_objects(heap: &mut Heap) -> Result<(), Memory>
 
 /// Makes an object that inherits from the one at a place.
 fn make_object(heap: &mut Heap, prototype: Option<Place>) -> Result<(), Memory>
-    requires prototype { ForSome prototype (λ place. HoldsObject (heap_of heap.old) (spec.number_of place)) }
-    requires plain { NoArrays (heap_of heap.old) }
-    ensures made { OnOk result (heap_of heap.new
+    ensures { OnOk result (heap_of heap.new
         ≡ new_object Plain (option_map spec.number_of prototype) (heap_of heap.old)) }
-    ensures size { OnOk result (SameSize 1 (heap_of heap.old) (heap_of heap.new)) }
 {
     match prototype {
         None => heap.object(ObjectKind::Plain, None)?,
@@ -88,11 +82,8 @@ fn make_object(heap: &mut Heap, prototype: Option<Place>) -> Result<(), Memory>
 
 /// Makes the functions.
 fn make_functions(alloc: Global, heap: &mut Heap, table: &[FunctionRow]) -> Result<(), Memory>
-    requires size { IsOfSize spec.first_function (heap_of heap.old) }
-    requires table { length table.now ≤ tables.FUNCTIONS }
-    requires parents { IsTrue (parents_first spec.first_function (map row_seen table.now)) }
-    ensures made { OnOk result (heap_of heap.new ≡ spec.each spec.make_function 0 (map row_seen table.now) (heap_of heap.old)) }
-    ensures size { OnOk result (IsOfSize (spec.first_function + length table.now) (heap_of heap.new)) }
+    requires { length table.now ≤ tables.FUNCTIONS }
+    ensures { OnOk result (heap_of heap.new ≡ spec.each spec.make_function 0 (map row_seen table.now) (heap_of heap.old)) }
 {
     for (number, row) in table.iter().enumerate() {
         make_row(alloc, heap, row.0, number as u32, row.2, row.3)?;
@@ -109,11 +100,8 @@ fn make_row(
     name: &str,
     length: u8,
 ) -> Result<(), Memory>
-    requires parent { HoldsObject (heap_of heap.old) (spec.number_of (spec.parent_of function)) }
-    requires plain { NoArrays (heap_of heap.old) }
-    ensures made { OnOk result (heap_of heap.new
+    ensures { OnOk result (heap_of heap.new
         ≡ spec.function_made (spec.parent_of function) number name.now length (heap_of heap.old)) }
-    ensures size { OnOk result (SameSize 1 (heap_of heap.old) (heap_of heap.new)) }
 {
     make_function(alloc, heap, parent_of(function), number, name, length)
 }
@@ -137,10 +125,7 @@ fn make_function(
     name: &str,
     length: u8,
 ) -> Result<(), Memory>
-    requires parent { HoldsObject (heap_of heap.old) (spec.number_of parent) }
-    requires plain { NoArrays (heap_of heap.old) }
-    ensures made { OnOk result (heap_of heap.new ≡ spec.function_made parent number name.now length (heap_of heap.old)) }
-    ensures size { OnOk result (SameSize 1 (heap_of heap.old) (heap_of heap.new)) }
+    ensures { OnOk result (heap_of heap.new ≡ spec.function_made parent number name.now length (heap_of heap.old)) }
 {
     let object = make_plain_function(heap, parent, number)?;
     let length = Value::Primitive(Primitive::Number(i64::from(length)));
@@ -150,21 +135,16 @@ fn make_function(
 
 /// Makes a built-in function of this number, without properties.
 fn make_plain_function(heap: &mut Heap, parent: Place, number: u32) -> Result<Object, Memory>
-    requires parent { HoldsObject (heap_of heap.old) (spec.number_of parent) }
-    requires plain { NoArrays (heap_of heap.old) }
     ensures made { OnOk result (heap_of heap.new ≡ spec.plain_function parent number (heap_of heap.old)) }
     ensures object { IfOk result (λ made. made.index ≡ next_object (heap_of heap.old)) }
-    ensures size { OnOk result (SameSize 1 (heap_of heap.old) (heap_of heap.new)) }
 {
     heap.object(ObjectKind::BuiltIn(number), Some(object_at(parent)))
 }
 
 /// Makes each function a property of the object that holds it.
 fn hold_functions(alloc: Global, heap: &mut Heap, table: &[FunctionRow]) -> Result<(), Memory>
-    requires size { IsOfSize spec.built_in_count (heap_of heap.old) }
-    requires table { length table.now ≤ tables.FUNCTIONS }
-    ensures made { OnOk result (heap_of heap.new ≡ spec.each spec.hold_function 0 (map row_seen table.now) (heap_of heap.old)) }
-    ensures size { OnOk result (IsOfSize spec.built_in_count (heap_of heap.new)) }
+    requires { length table.now ≤ tables.FUNCTIONS }
+    ensures { OnOk result (heap_of heap.new ≡ spec.each spec.hold_function 0 (map row_seen table.now) (heap_of heap.old)) }
 {
     for (number, row) in table.iter().enumerate() {
         hold(alloc, heap, number, row.2, row.1)?;
@@ -180,10 +160,8 @@ fn hold(
     name: &str,
     holder: Option<Place>,
 ) -> Result<(), Memory>
-    requires size { IsOfSize spec.built_in_count (heap_of heap.old) }
-    requires number { number < tables.FUNCTIONS }
-    ensures made { OnOk result (heap_of heap.new ≡ spec.hold_in number name.now holder (heap_of heap.old)) }
-    ensures size { OnOk result (IsOfSize spec.built_in_count (heap_of heap.new)) }
+    requires { number < tables.FUNCTIONS }
+    ensures { OnOk result (heap_of heap.new ≡ spec.hold_in number name.now holder (heap_of heap.old)) }
 {
     match holder {
         None => Ok(()),
@@ -204,9 +182,7 @@ fn function_at(number: usize) -> Object
 
 /// Gives each function that has one its `prototype`, and this its `constructor`.
 fn link(alloc: Global, heap: &mut Heap, table: &[(Place, Place)]) -> Result<(), Memory>
-    requires { IsOfSize spec.built_in_count (heap_of heap.old) }
-    ensures made { OnOk result (heap_of heap.new ≡ spec.each spec.link 0 table.now (heap_of heap.old)) }
-    ensures size { OnOk result (IsOfSize spec.built_in_count (heap_of heap.new)) }
+    ensures { OnOk result (heap_of heap.new ≡ spec.each spec.link 0 table.now (heap_of heap.old)) }
 {
     for pair in table {
         link_pair(alloc, heap, pair.0, pair.1)?;
@@ -221,9 +197,7 @@ fn link_pair(
     function: Place,
     prototype: Place,
 ) -> Result<(), Memory>
-    requires { IsOfSize spec.built_in_count (heap_of heap.old) }
-    ensures made { OnOk result (heap_of heap.new ≡ spec.linked_pair function prototype (heap_of heap.old)) }
-    ensures size { OnOk result (IsOfSize spec.built_in_count (heap_of heap.new)) }
+    ensures { OnOk result (heap_of heap.new ≡ spec.linked_pair function prototype (heap_of heap.old)) }
 {
     let function = object_at(function);
     let prototype = object_at(prototype);
@@ -247,9 +221,7 @@ fn link_pair(
 
 /// Gives the objects that errors inherit from their name, and an empty message.
 fn name_errors(alloc: Global, heap: &mut Heap, table: &[ErrorRow]) -> Result<(), Memory>
-    requires { IsOfSize spec.built_in_count (heap_of heap.old) }
-    ensures made { OnOk result (heap_of heap.new ≡ spec.each spec.name_error 0 (map error_seen table.now) (heap_of heap.old)) }
-    ensures size { OnOk result (IsOfSize spec.built_in_count (heap_of heap.new)) }
+    ensures { OnOk result (heap_of heap.new ≡ spec.each spec.name_error 0 (map error_seen table.now) (heap_of heap.old)) }
 {
     for pair in table {
         name_error(alloc, heap, pair.0, pair.1)?;
@@ -259,9 +231,7 @@ fn name_errors(alloc: Global, heap: &mut Heap, table: &[ErrorRow]) -> Result<(),
 
 /// Gives an object that errors inherit from its name, and an empty message.
 fn name_error(alloc: Global, heap: &mut Heap, prototype: Place, name: &str) -> Result<(), Memory>
-    requires { IsOfSize spec.built_in_count (heap_of heap.old) }
-    ensures made { OnOk result (heap_of heap.new ≡ spec.error_named prototype name.now (heap_of heap.old)) }
-    ensures size { OnOk result (IsOfSize spec.built_in_count (heap_of heap.new)) }
+    ensures { OnOk result (heap_of heap.new ≡ spec.error_named prototype name.now (heap_of heap.old)) }
 {
     let prototype = object_at(prototype);
     define(alloc, heap, prototype, "name", text(alloc, name)?, HIDDEN)?;
@@ -270,9 +240,7 @@ fn name_error(alloc: Global, heap: &mut Heap, prototype: Place, name: &str) -> R
 
 /// Freezes all objects but the global object.
 fn freeze_all(heap: &mut Heap)
-    requires { IsOfSize spec.built_in_count (heap_of heap.old) }
-    ensures made { heap_of heap.new ≡ spec.freeze_all spec.built_in_count 0 (heap_of heap.old) }
-    ensures size { length (heap_of heap.new).environments ≡ 0 }
+    ensures { heap_of heap.new ≡ spec.freeze_all spec.built_in_count 0 (heap_of heap.old) }
 {
     for index in 0..(PLACES + FUNCTIONS) as u64 {
         freeze(heap, index);
@@ -281,7 +249,6 @@ fn freeze_all(heap: &mut Heap)
 
 /// Freezes the object of this number, if it isn't the global object.
 fn freeze(heap: &mut Heap, index: u64)
-    requires { HoldsObject (heap_of heap.old) index }
     ensures { heap_of heap.new ≡ spec.freeze_one index (heap_of heap.old) }
 {
     if index != object_at(Place::Global).index() {
@@ -305,11 +272,8 @@ fn define(
     value: Value,
     flags: Flags,
 ) -> Result<(), Memory>
-    requires object { HoldsObject (heap_of heap.old) object.index }
-    requires plain { NoArrays (heap_of heap.old) }
-    ensures defined { OnOk result (heap_of heap.new
+    ensures { OnOk result (heap_of heap.new
         ≡ objects.define object.index (property_with key.now value flags) (heap_of heap.old)) }
-    ensures size { OnOk result (SameSize 0 (heap_of heap.old) (heap_of heap.new)) }
 {
     let key = ascii(alloc, key.as_bytes())?;
     heap.define(object, &key, value, flags)
@@ -317,15 +281,13 @@ fn define(
 
 /// Makes the environment of the names that every file has, with those that are no function's.
 fn make_names(alloc: Global, heap: &mut Heap) -> Result<(), Memory>
-    requires { length (heap_of heap.old).environments ≡ 0 }
-    ensures made { OnOk result (heap_of heap.new ≡ spec.first_names (heap_of heap.old)) }
-    ensures size { OnOk result (length (heap_of heap.new).environments ≡ 1) }
+    ensures { OnOk result (heap_of heap.new ≡ spec.first_names (heap_of heap.old)) }
 {
-    let env = heap.env(None)?;
+    heap.env(None)?;
     declare_constant(
         alloc,
         heap,
-        env,
+        global_environment(),
         "undefined",
         Value::Primitive(Primitive::Undefined),
     )
@@ -333,9 +295,7 @@ fn make_names(alloc: Global, heap: &mut Heap) -> Result<(), Memory>
 
 /// Declares the names of objects that aren't functions.
 fn name_objects(alloc: Global, heap: &mut Heap, table: &[NamedRow]) -> Result<(), Memory>
-    requires { length (heap_of heap.old).environments ≡ 1 }
-    ensures made { OnOk result (heap_of heap.new ≡ spec.each spec.name_object 0 (map named_seen table.now) (heap_of heap.old)) }
-    ensures size { OnOk result (length (heap_of heap.new).environments ≡ 1) }
+    ensures { OnOk result (heap_of heap.new ≡ spec.each spec.name_object 0 (map named_seen table.now) (heap_of heap.old)) }
 {
     for named in table {
         name_object(alloc, heap, named.0, named.1)?;
@@ -345,9 +305,7 @@ fn name_objects(alloc: Global, heap: &mut Heap, table: &[NamedRow]) -> Result<()
 
 /// Declares the name of an object.
 fn name_object(alloc: Global, heap: &mut Heap, name: &str, place: Place) -> Result<(), Memory>
-    requires { length (heap_of heap.old).environments ≡ 1 }
-    ensures made { OnOk result (heap_of heap.new ≡ spec.object_named name.now place (heap_of heap.old)) }
-    ensures size { OnOk result (length (heap_of heap.new).environments ≡ 1) }
+    ensures { OnOk result (heap_of heap.new ≡ spec.object_named name.now place (heap_of heap.old)) }
 {
     let object = Value::Object(object_at(place));
     declare_constant(alloc, heap, global_environment(), name, object)
@@ -355,8 +313,7 @@ fn name_object(alloc: Global, heap: &mut Heap, name: &str, place: Place) -> Resu
 
 /// Declares the names of functions.
 fn name_functions(alloc: Global, heap: &mut Heap, table: &[FunctionRow]) -> Result<(), Memory>
-    requires size { length (heap_of heap.old).environments ≡ 1 }
-    requires table { length table.now ≤ tables.FUNCTIONS }
+    requires { length table.now ≤ tables.FUNCTIONS }
     ensures { OnOk result (heap_of heap.new ≡ spec.each spec.name_function 0 (map row_seen table.now) (heap_of heap.old)) }
 {
     for (number, row) in table.iter().enumerate() {
@@ -373,10 +330,8 @@ fn name_function(
     name: &str,
     holder: Option<Place>,
 ) -> Result<(), Memory>
-    requires size { length (heap_of heap.old).environments ≡ 1 }
-    requires number { number < tables.FUNCTIONS }
-    ensures made { OnOk result (heap_of heap.new ≡ spec.name_of number name.now holder (heap_of heap.old)) }
-    ensures size { OnOk result (length (heap_of heap.new).environments ≡ 1) }
+    requires { number < tables.FUNCTIONS }
+    ensures { OnOk result (heap_of heap.new ≡ spec.name_of number name.now holder (heap_of heap.old)) }
 {
     match holder {
         Some(_) => Ok(()),
@@ -395,10 +350,8 @@ fn declare_constant(
     name: &str,
     value: Value,
 ) -> Result<(), Memory>
-    requires { HoldsEnvironment (heap_of heap.old) env.index }
-    ensures made { OnOk result (heap_of heap.new
+    ensures { OnOk result (heap_of heap.new
         ≡ declare env.index (spec.constant name.now value) (heap_of heap.old)) }
-    ensures size { OnOk result (length (heap_of heap.new).environments ≡ length (heap_of heap.old).environments) }
 {
     heap.declare(env, &Name::from_str(alloc, name)?, Some(value), true)?;
     Ok(())

@@ -3,6 +3,8 @@ use Rattle.std.proofs.Common.{refl}
 use Rattle.std.specs.Fmt.{digits}
 use Rattle.js_value.specs.Realm as realm
 use Rattle.js_value.specs.HostRows.{ArrayCalls, ObjectCalls, ConstructorCalls, Calling}
+use Rattle.js_value.specs.RequiringRows.{Requires}
+use Rattle.std.specs.Char.Utf16.{utf16_chars}
 
 pub array_calls : ArrayCalls
 unfolding lib.Utf8.encode realm.rows digits
@@ -19,3 +21,7 @@ constructor_calls = record { object_itself = refl; object_fresh = refl; object_o
 pub calling : Calling
 unfolding lib.Utf8.encode realm.rows digits
 calling = record { line = refl; nothing = refl; lone = refl; pair = refl; refused = refl; constructed = refl; print = refl; require = refl; require_number = refl; past = refl }
+
+pub requires_files : Requires
+unfolding lib.Utf8.encode utf16_chars
+requires_files = record { above = refl; above_the_root = refl; of_package = refl; nothing = refl; astral = refl; lone = refl; by_file = refl; by_other = refl; by_none = refl }

@@ -1,4 +1,5 @@
 pub mod DigitsLemmas
+pub mod EdgeWorked
 pub mod ExamplesLemmas
 pub mod HostWorked
 pub mod KeyLemmas
@@ -9,5 +10,3 @@ pub mod RealmWorked
 mod RangesLemmas
 pub mod StoreWorked
 pub mod Tenth
-mod TwoRunsLemmas
-mod TwoRunsObjects

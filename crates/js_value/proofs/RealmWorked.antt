@@ -1,6 +1,5 @@
 -- The worked examples of the opening realm compute.
 use Rattle.std.proofs.Common.{refl}
-use Rattle.std.specs.Fmt.{digits}
 use Rattle.js_value.specs.Realm as realm
 use Rattle.js_value.specs.RealmRows.{Places, Inheritance, Functions, Errors, GlobalNames}
 

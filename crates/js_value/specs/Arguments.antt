@@ -1,5 +1,5 @@
 -- What a built-in function takes `this` and its arguments for: a value, or what is done in its place.
-use Rattle.std.specs.Prelude.{ℕ, suc, ◌-◌, min, Bool, List, ℤ, pos, negsuc, Option, Some, None, Result, Ok, Err, slice_index_or, if◌then◌else◌}
+use Rattle.std.specs.Prelude.{ℕ, suc, ◌-◌, min, List, ℤ, pos, negsuc, Option, Some, None, Result, Ok, Err, slice_index_or}
 use Rattle.js_value.specs.declared.value.Value.{Value}
 use Rattle.js_value.specs.declared.value.Value.TheVariants as value
 use Rattle.js_value.specs.declared.value.Primitive.{Primitive}

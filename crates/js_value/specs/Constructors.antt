@@ -1,9 +1,8 @@
 -- The built-in functions that may be constructed (ECMA-262, 20.1.1, 20.3.1, 20.5.1, 20.5.6.1, 21.1.1, 22.1.1 and 23.1.1), with
 -- `new` and without.
-use Rattle.std.specs.Prelude.{ℕ, zero, suc, Bool, true, false, List, [], ◌∷◌, ℤ, pos, negsuc, Option, Some, None, Ok}
+use Rattle.std.specs.Prelude.{zero, suc, Bool, true, false, List, [], ◌∷◌, ℤ, pos, negsuc, Some, None, Ok}
 use Rattle.js_value.specs.declared.value.Value.{Value}
 use Rattle.js_value.specs.declared.value.Value.TheVariants as value
-use Rattle.js_value.specs.declared.value.Object.{Object}
 use Rattle.js_value.specs.declared.value.Primitive.TheVariants as primitive
 use Rattle.js_value.specs.declared.value.Kind.TheVariants as kind
 use Rattle.js_value.specs.declared.error_kind.ErrorKind.{ErrorKind}

@@ -4,7 +4,7 @@ use Rattle.std.specs.Str.{bytes_eq}
 use Rattle.js_value.specs.declared.value.Value.{Value}
 use Rattle.js_value.specs.State.{Binding, Environment, Heap}
 
--- stands for what is not there: no operation is asked about it
+-- stands for what is not there: no run refers to it
 abbrev pub no_environment : Environment
 no_environment = record { outer = None; bindings = [] }
 
@@ -39,8 +39,8 @@ pub record Cell : Type 0 where
 abbrev pub place_of : Environment → List ℕ → Option ℕ
 place_of environment name = position (λ b. bytes_eq b.name name) environment.bindings
 
--- 9.1.2.1: the cell of the first that has the name, from an environment outward. What is around an environment is older, so
--- there are at most as many as the number of the first one, and it.
+-- 9.1.2.1: the cell of the first that has the name, from an environment outward. In a run what is around an environment is
+-- older, so there are at most as many as the number of the first one, and it.
 abbrev pub resolved : ℕ → Heap → Option ℕ → List ℕ → Option Cell
 resolved zero h chain name = None
 resolved (suc n) h None name = None

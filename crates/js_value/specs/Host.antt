@@ -2,7 +2,6 @@
 use Rattle.std.specs.Prelude.{ℕ, ◌+◌, ◌-◌, ◌*◌, ◌==◌, Bool, true, false, ◌&&◌, ◌||◌, List, [], ◌∷◌, ◌++◌, map, option_map, length, codes, encode_utf8_all, nat_le, nat_lt, if◌then◌else◌, Option, Some, None, Ok, Err, slice_get}
 use Rattle.js_value.specs.declared.value.Value.{Value}
 use Rattle.js_value.specs.declared.value.Value.TheVariants as value
-use Rattle.js_value.specs.declared.value.Object.{Object}
 use Rattle.js_value.specs.declared.value.Primitive.TheVariants as primitive
 use Rattle.js_value.specs.declared.value.Kind.{Kind}
 use Rattle.js_value.specs.declared.value.Kind.TheVariants as kind

@@ -10,7 +10,7 @@ use Rattle.js_value.specs.declared.key.Key.{Key}
 use Rattle.js_value.specs.Key.{index_of, ordered_keys}
 use Rattle.js_value.specs.Numbers.{decimal_text}
 
--- stands for what is not there: no operation is asked about it
+-- stands for what is not there: no run refers to it
 abbrev pub no_object : ObjectRecord
 no_object = record { kind = Plain; prototype = None; frozen = false; elements = []; properties = [] }
 
@@ -90,8 +90,8 @@ pub record Found : Type 0 where
 abbrev pub found_in : ObjectRecord → Property → Found
 found_in object p = record { property = p; writable = p.writable && not object.frozen }
 
--- the property of the first on a chain of prototypes that has it. A prototype is older than what inherits from it, so a
--- chain has at most as many members as the number of its first one, and it.
+-- the property of the first on a chain of prototypes that has it. In a run a prototype is older than what inherits from it,
+-- so a chain has at most as many members as the number of its first one, and it.
 abbrev pub found : ℕ → Heap → Option ℕ → List ℕ → Option Found
 found zero h chain key = None
 found (suc n) h None key = None

@@ -1,6 +1,6 @@
 -- What the built-in functions that look at no object give, for `this` and their arguments: all of these are primitive values, or
 -- references, which tell nothing. The steps are those of ECMA-262, in its order; a number is whole and in range, or refused.
-use Rattle.std.specs.Prelude.{ℕ, zero, suc, ◌+◌, ◌-◌, ◌*◌, ◌/◌, ◌%◌, ◌==◌, min, max, Bool, true, false, ◌&&◌, List, [], ◌∷◌, ◌++◌, map, length, take, drop, codes, nat_le, nat_lt, if◌then◌else◌, ℤ, pos, negsuc, int_lt, unsigned_abs, Option, Some, None, Ok}
+use Rattle.std.specs.Prelude.{ℕ, zero, suc, ◌+◌, ◌-◌, ◌/◌, ◌%◌, ◌==◌, min, max, Bool, true, false, ◌&&◌, List, [], ◌∷◌, ◌++◌, map, length, take, drop, codes, nat_le, nat_lt, if◌then◌else◌, ℤ, pos, negsuc, int_lt, unsigned_abs, Some, Ok}
 use Rattle.std.specs.List.{starts_with, ends_with, repeat}
 use Rattle.js_value.specs.declared.value.Primitive.{Primitive}
 use Rattle.js_value.specs.declared.value.Primitive.TheVariants as primitive

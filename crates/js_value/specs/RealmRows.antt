@@ -1,5 +1,5 @@
 -- Worked examples of what stands when a program begins.
-use Rattle.std.specs.Prelude.{◌≡◌, ℕ, suc, ◌&&◌, ◌||◌, ◌==◌, nat_lt, Bool, true, false, List, [], ◌∷◌, map, length, Option, Some, None, codes}
+use Rattle.std.specs.Prelude.{◌≡◌, ℕ, suc, ◌&&◌, ◌||◌, ◌==◌, nat_lt, Bool, true, false, List, [], ◌∷◌, map, length, Some, None, codes}
 use Rattle.js_value.specs.declared.error_kind.ErrorKind.TheVariants.{TypeError}
 use Rattle.js_value.specs.declared.built_in.Place.{Place}
 use Rattle.js_value.specs.declared.built_in.Place.TheVariants as place

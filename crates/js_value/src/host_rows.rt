@@ -1,4 +1,5 @@
 ghost use Rattle.js_value.specs.HostRows as rows;
+ghost use Rattle.js_value.specs.RequiringRows.{Requires};
 
 /// The worked examples of what built-in functions answer.
 pub fn worked_host()
@@ -6,4 +7,5 @@ pub fn worked_host()
     ensures object_calls { rows.ObjectCalls }
     ensures constructor_calls { rows.ConstructorCalls }
     ensures calling { rows.Calling }
+    ensures requires_files { Requires }
 {}

@@ -3,10 +3,9 @@ use Rattle.std.specs.Prelude.{ℕ, Bool, false, not, ◌||◌, List, Option, Som
 use Rattle.js_value.specs.declared.value.Value.{Value}
 use Rattle.js_value.specs.State as state
 use Rattle.js_value.specs.Objects as objects
-use Rattle.js_value.specs.Objects.{own_of, found_in, found, Found, write_of_own, write_of_new}
+use Rattle.js_value.specs.Objects.{own_of, found_in, Found, write_of_own, write_of_new}
 use Rattle.js_heap.specs.declared.write.Write.{Write}
 use Rattle.js_heap.specs.declared.write.Write.TheVariants as write
-use Rattle.js_heap.specs.Object.{reach_of}
 
 abbrev pub plain_write : Write → objects.Write
 plain_write write.Replaces = objects.Replaces
@@ -18,11 +17,7 @@ plain_write write.ReadOnly = objects.ReadOnly
 plain_write write.Sparse = objects.Sparse
 plain_write write.BadLength = objects.BadLength
 
--- what is first found along a whole chain of prototypes
-abbrev pub chain_found : state.Heap → Option ℕ → List ℕ → Option Found
-chain_found h chain key = found (reach_of chain) h chain key
-
--- its value, and whether it may be written
+-- what was found: its value, and whether it may be written
 abbrev pub seen_of : Found → Value × Bool
 seen_of f = (f.property.value, f.writable)
 

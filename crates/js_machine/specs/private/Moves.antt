@@ -13,13 +13,13 @@ use Rattle.js_machine.specs.declared.data.Move.TheVariants as move
 use Rattle.js_machine.specs.declared.state.State.{State}
 use Rattle.js_code.specs.Node.{Reader}
 use Rattle.js_machine.specs.private.Config.{View, control_comp, control_weight, frames_weight, plug}
-use Rattle.js_machine.specs.private.State.{store_in}
+use Rattle.js_machine.specs.private.State.{Held, held, store_of}
 
 -- what waits, what is next, and what the program can change
 pub record Here : Type 0 where
   pub frames : List Frame
   pub control : Control
-  pub state : State
+  pub state : Held
 
 -- all that is left to do
 abbrev pub todo : View → Here → Comp
@@ -28,7 +28,7 @@ todo t h = plug t h.frames (control_comp t h.control)
 -- with any steps left, and whatever else is in the store, both do the same
 pub record Leads (t : View) (a b : Here) : Type 0 where
   pub same : (base : Store) (inside : E.Entry → Comp) (n : ℕ) →
-      exec inside n (todo t a) (store_in base a.state) ≡ exec inside n (todo t b) (store_in base b.state)
+      exec inside n (todo t a) (store_of base a.state) ≡ exec inside n (todo t b) (store_of base b.state)
 
 -- the work that is left up to the next step that is asked for
 abbrev pub work : Reader → Here → ℕ
@@ -46,12 +46,12 @@ rest_control (rest.Refused k) = control.Refuse k
 rest_control (rest.Asks e) = control.Enter e
 
 abbrev pub here : List Frame → Control → State → Here
-here frames next state = record { frames = frames; control = next; state = state }
+here frames next s = record { frames = frames; control = next; state = held s }
 
 -- a transition leads on and leaves less work, or the machine can't go on by itself and nothing changes
 abbrev pub Moves : View → Here → Move → List Frame → State → Type 0
 Moves t h (move.Next c) fs s = Leads t h (here fs c s) × (work t.tree (here fs c s) < work t.tree h)
-Moves t h (move.At r) fs s = IsAt r h.control fs × (fs ≡ h.frames) × (s ≡ h.state)
+Moves t h (move.At r) fs s = IsAt r h.control fs × (fs ≡ h.frames) × (held s ≡ h.state)
 
 -- transitions lead to where the machine can't go on by itself
 abbrev pub Rests : View → Here → Rest → List Frame → State → Type 0

@@ -5,7 +5,6 @@ use Rattle.js_tree.specs.Linked.{Numbers}
 use Rattle.js_value.specs.Objects.{next_object}
 use Rattle.js_value.specs.Environments.{next_environment}
 use Rattle.js_value.specs.Realm.{opening}
-use Rattle.js_heap.specs.Heap.{heap_of}
 use Rattle.js_code.specs.Code.{numbered}
 use Rattle.js_meaning.specs.Effects.{handle}
 use Rattle.js_meaning.specs.Meaning.{comp_stmts}
@@ -29,7 +28,7 @@ statements_of (MakeFile statements comments) = statements
 pub record Opens (statements : Stmts) (m : Whole) : Type 0 where
   pub todo : (p : Sources) (k : Numbers) → todo (view_of p m.code) m.here
       ≡ handle (comp_stmts p (numbered statements k) (next_environment opening)) after_body
-  pub heap : (k : Numbers) → heap_of m.here.state.heap
+  pub heap : (k : Numbers) → m.here.state.heap
       ≡ file_environment (next_object opening) (var_stmts (numbered statements k)) (file_objects opening)
   pub printed : output_of m ≡ []
   pub given : m.given ≡ 0

@@ -10,12 +10,12 @@ use Rattle.js_machine.specs.declared.data.Rest.{Rest}
 use Rattle.js_machine.specs.declared.data.Rest.TheVariants as rest
 use Rattle.js_machine.specs.private.Config.{View}
 use Rattle.js_machine.specs.private.Moves.{Here, todo}
-use Rattle.js_machine.specs.private.State.{store_in}
+use Rattle.js_machine.specs.private.State.{store_of}
 
 -- i steps lead from a to b: with any steps more, both end alike
 pub record Takes (p : Sources) (t : View) (i : ℕ) (a b : Here) : Type 0 where
   pub same : (base : Store) (n : ℕ) →
-      exec (inside p) (i + n) (todo t a) (store_in base a.state) ≡ exec (inside p) n (todo t b) (store_in base b.state)
+      exec (inside p) (i + n) (todo t a) (store_of base a.state) ≡ exec (inside p) n (todo t b) (store_of base b.state)
 
 -- what comes of a run that is there
 abbrev pub rest_outcome : Rest → Outcome
@@ -26,4 +26,4 @@ rest_outcome (rest.Asks e) = outcome.Stops
 -- these steps lead from a to b, and so it ends there with no step more
 pub record Runs (p : Sources) (t : View) (steps : ℕ) (a : Here) (r : Rest) (b : Here) : Type 0 where
   pub takes : Takes p t steps a b
-  pub ends : (base : Store) → exec (inside p) 0 (todo t b) (store_in base b.state) ≡ ran (rest_outcome r) (store_in base b.state)
+  pub ends : (base : Store) → exec (inside p) 0 (todo t b) (store_of base b.state) ≡ ran (rest_outcome r) (store_of base b.state)

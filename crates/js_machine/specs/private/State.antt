@@ -1,5 +1,6 @@
 -- The store of a running machine.
-use Rattle.std.specs.Prelude.{◌≡◌, ℕ}
+use Rattle.std.specs.Prelude.{◌≡◌, ℕ, List}
+use Rattle.js_value.specs.State as state
 use Rattle.js_value.specs.State.{Store}
 use Rattle.js_heap.specs.declared.heap.Heap.{Heap}
 use Rattle.js_heap.specs.Heap.{heap_of}
@@ -7,9 +8,20 @@ use Rattle.js_meaning.specs.declared.outcome.Completion.{Completion}
 use Rattle.js_meaning.specs.Effects.{Entry, Comp, handle, exec}
 use Rattle.js_machine.specs.declared.state.State.{State}
 
+-- what a program can change, as the definitions have it
+pub record Held : Type 0 where
+  pub heap : state.Heap
+  pub output : List ℕ
+
+abbrev pub held : State → Held
+held s = record { heap = heap_of s.heap; output = s.output.items }
+
 -- what the machine holds, in place of what a store has of it; the rest is as in the store that is given
+abbrev pub store_of : Store → Held → Store
+store_of base h = record base { heap = h.heap; output = h.output }
+
 abbrev pub store_in : Store → State → Store
-store_in base state = record base { heap = heap_of state.heap; output = state.output.items }
+store_in base s = store_of base (held s)
 
 -- the same of a heap alone
 abbrev pub with_heap : Store → Heap → Store

@@ -1,4 +1,4 @@
-use Rattle.std.proofs.Common.{◌≡◌, ℕ, suc, ◌+◌, ◌-◌, ◌<◌, List, [], ◌∷◌, ◌++◌, append_assoc, add-one, ap, ap₂, sym, ◌∙◌, arith}
+use Rattle.std.proofs.Common.{◌≡◌, ℕ, suc, ◌+◌, ◌-◌, ◌<◌, List, [], ◌∷◌, ◌++◌, append_assoc, add-one, ap, ◌∙◌, arith}
 use Rattle.js_value.specs.declared.value.Value.{Value}
 use Rattle.js_value.specs.State.{Heap}
 use Rattle.js_value.specs.OnObjects.{at_indices, value_of_index}

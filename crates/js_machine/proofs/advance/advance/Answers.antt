@@ -27,4 +27,4 @@ pub loop-next-preserved : goal.loop-next-preserved
 loop-next-preserved c = λ p. leads_on (view_of p c.args.code.now) _ _ _ (c.loop-next.invariant p) (moved_on c p).0
 
 pub returns-in-At : goal.returns-in-At
-returns-in-At c = λ p. rests_at (view_of p c.args.code.now) _ _ _ _ _ _ _ (c.loop-next.invariant p) (stayed c p).0 (stayed c p).1 (stayed c p).2
+returns-in-At c = λ p. rests_at (view_of p c.args.code.now) _ _ _ _ _ c.loop-next.state c.move_on.new.state (c.loop-next.invariant p) (stayed c p).0 (stayed c p).1 (stayed c p).2

@@ -1,4 +1,3 @@
-use Rattle.std.proofs.Common.{rules}
 use Rattle.js_value.specs.Realm.{hold_function}
 use Rattle.js_heap.specs.Heap.{heap_of}
 use Rattle.js_realm.specs.private.Opening.{row_seen}
@@ -6,10 +5,7 @@ use Rattle.js_realm.proofs.OpeningLemmas.{one_more, none_more}
 use Rattle.js_realm.proofs.opening.hold_functions.Goals as goal
 
 pub loop-number-preserved : goal.loop-number-preserved
-loop-number-preserved c = record {
-  same = one_more hold_function row_seen c.args.table.now c.loop-number.number _ (heap_of c.loop-number.heap) _ _ c.loop-number-test.true c.loop-number.invariant.same c.in_ok-hold.ensures.made;
-  size = search rules;
-}
+loop-number-preserved c = one_more hold_function row_seen c.args.table.now c.loop-number.number _ (heap_of c.loop-number.heap) _ _ c.loop-number-test.true c.loop-number.invariant c.in_ok-hold.ensures
 
-pub returns-clause-made : goal.returns-clause-made
-returns-clause-made c = none_more hold_function row_seen c.args.table.now c.loop-number.number (heap_of c.loop-number.heap) _ c.loop-number-test.false c.loop-number.invariant.same
+pub returns : goal.returns
+returns c = none_more hold_function row_seen c.args.table.now c.loop-number.number (heap_of c.loop-number.heap) _ c.loop-number-test.false c.loop-number.invariant

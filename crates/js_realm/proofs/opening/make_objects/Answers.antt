@@ -1,4 +1,3 @@
-use Rattle.std.proofs.Common.{rules}
 use Rattle.js_value.specs.declared.built_in.TheConstants.{PROTOTYPES}
 use Rattle.js_value.specs.Realm.{make_object}
 use Rattle.js_heap.specs.Heap.{heap_of}
@@ -6,10 +5,7 @@ use Rattle.js_realm.proofs.OpeningLemmas.{next_one, no_more}
 use Rattle.js_realm.proofs.opening.make_objects.Goals as goal
 
 pub loop-row-preserved : goal.loop-row-preserved
-loop-row-preserved c = record {
-  same = next_one make_object PROTOTYPES c.loop-row.row-index _ (heap_of c.loop-row.heap) _ _ c.loop-row-test.true c.loop-row.invariant.same c.in_ok-make_object.ensures.made;
-  size = search rules;
-}
+loop-row-preserved c = next_one make_object PROTOTYPES c.loop-row.row-index _ (heap_of c.loop-row.heap) _ _ c.loop-row-test.true c.loop-row.invariant c.in_ok-make_object.ensures
 
-pub returns-clause-made : goal.returns-clause-made
-returns-clause-made c = no_more make_object PROTOTYPES c.loop-row.row-index (heap_of c.loop-row.heap) _ c.loop-row-test.false c.loop-row.invariant.same
+pub returns : goal.returns
+returns c = no_more make_object PROTOTYPES c.loop-row.row-index (heap_of c.loop-row.heap) _ c.loop-row-test.false c.loop-row.invariant

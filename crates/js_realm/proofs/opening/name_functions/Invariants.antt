@@ -1,11 +1,9 @@
-use Rattle.std.proofs.Common.{◌≡◌, length, map, drop}
+use Rattle.std.proofs.Common.{◌≡◌, map, drop}
 use Rattle.js_value.specs.Realm.{each, name_function}
 use Rattle.js_heap.specs.Heap.{heap_of}
 use Rattle.js_realm.specs.private.Opening.{row_seen}
 use Rattle.js_realm.proofs.opening.name_functions.Given as goal
 
 abbrev pub invariant-loop-number : goal.invariant-loop-number
-invariant-loop-number l = record {
-  same : each name_function l.number (drop l.number (map row_seen l.table)) (heap_of l.heap) ≡ each name_function 0 (map row_seen l.table) (heap_of l.fn.heap);
-  size : length (heap_of l.heap).environments ≡ 1;
-}
+invariant-loop-number l =
+    each name_function l.number (drop l.number (map row_seen l.table)) (heap_of l.heap) ≡ each name_function 0 (map row_seen l.table) (heap_of l.fn.heap)

@@ -8,12 +8,12 @@ pub returns : goal.returns
 unfolding realm.opening realm.rows realm.named_errors realm.named_objects
 returns c =
     c.in_ok-name_functions.ensures
-    ∙ ap (each name_function 0 rows) (c.in_ok-name_objects.ensures.made
-    ∙ ap (each name_object 0 named_objects) (c.in_ok-make_names.ensures.made
-    ∙ ap first_names (c.freeze_all.ensures.made
-    ∙ ap (freeze_all built_in_count 0) (c.in_ok-name_errors.ensures.made
-    ∙ ap (each name_error 0 named_errors) (c.in_ok-link.ensures.made
-    ∙ ap (each link 0 CONSTRUCTORS) (c.in_ok-hold_functions.ensures.made
-    ∙ ap (each hold_function 0 rows) (c.in_ok-make_functions.ensures.made
-    ∙ ap (each make_function 0 rows) (c.in_ok-make_objects.ensures.made
+    ∙ ap (each name_function 0 rows) (c.in_ok-name_objects.ensures
+    ∙ ap (each name_object 0 named_objects) (c.in_ok-make_names.ensures
+    ∙ ap first_names (c.freeze_all.ensures
+    ∙ ap (freeze_all built_in_count 0) (c.in_ok-name_errors.ensures
+    ∙ ap (each name_error 0 named_errors) (c.in_ok-link.ensures
+    ∙ ap (each link 0 CONSTRUCTORS) (c.in_ok-hold_functions.ensures
+    ∙ ap (each hold_function 0 rows) (c.in_ok-make_functions.ensures
+    ∙ ap (each make_function 0 rows) (c.in_ok-make_objects.ensures
     ∙ ap (each make_object 0 PROTOTYPES) c.new-heap.ensures))))))))

@@ -1,4 +1,4 @@
-use Rattle.js_value.proofs.HostWorked.{array_calls, object_calls, constructor_calls, calling}
+use Rattle.js_value.proofs.HostWorked.{array_calls, object_calls, constructor_calls, calling, requires_files}
 use Rattle.js_value.proofs.host_rows.worked_host.Goals as goal
 
 pub returns-clause-array_calls : goal.returns-clause-array_calls
@@ -12,3 +12,6 @@ returns-clause-constructor_calls c = constructor_calls
 
 pub returns-clause-calling : goal.returns-clause-calling
 returns-clause-calling c = calling
+
+pub returns-clause-requires_files : goal.returns-clause-requires_files
+returns-clause-requires_files c = requires_files

@@ -4,22 +4,17 @@ use Rattle.js_heap.specs.Object.{plain_object}
 use Rattle.js_heap.specs.private.Object.{with_more}
 use Rattle.js_heap.specs.Heap.{heap_of}
 use Rattle.js_heap.proofs.Lists.{map-set_by, map-set_same}
-use Rattle.js_heap.proofs.Older.{prototypes-set}
 use Rattle.js_heap.proofs.Outcomes.{OnOk_then, OnErr_then}
 use Rattle.js_heap.proofs.heap.Heap.append.Goals as goal
 
-pub invariant_of-self-clause-prototypes : goal.invariant_of-self-clause-prototypes
-invariant_of-self-clause-prototypes c =
-    prototypes-set c.args.self.now.objects.items _ _ c.append.new.self _ c.index.ensures c.requires c.index_mut-record.ensures.value c.append.ensures.prototype c.args.self.now.prototypes
-
-pub returns-clause-ok : goal.returns-clause-ok
-returns-clause-ok c =
+pub returns-in-Some-clause-ok : goal.returns-in-Some-clause-ok
+returns-in-Some-clause-ok c =
     OnOk_then c.append.result c.append.ensures.ok (λ more.
     ap (λ os. record (heap_of c.args.self.now) { objects = os })
-    (map-set_by plain_object (with_more c.args.more) c.args.self.now.objects.items _ _ c.append.new.self _ no_object c.index.ensures c.requires c.index_mut-record.ensures.value more))
+    (map-set_by plain_object (with_more c.args.more) c.args.self.now.objects.items _ _ c.append.new.self _ no_object c.index.ensures c.in-Some.ensures.item.3.0 c.in-Some.ensures.value more))
 
-pub returns-clause-err : goal.returns-clause-err
-returns-clause-err c =
+pub returns-in-Some-clause-err : goal.returns-in-Some-clause-err
+returns-in-Some-clause-err c =
     OnErr_then c.append.result c.append.ensures.err (λ kept.
     ap (λ os. record (heap_of c.args.self.now) { objects = os })
-    (map-set_same plain_object c.args.self.now.objects.items _ _ c.append.new.self _ no_object c.index.ensures c.requires c.index_mut-record.ensures.value kept))
+    (map-set_same plain_object c.args.self.now.objects.items _ _ c.append.new.self _ no_object c.index.ensures c.in-Some.ensures.item.3.0 c.in-Some.ensures.value kept))

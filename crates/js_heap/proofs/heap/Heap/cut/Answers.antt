@@ -4,14 +4,9 @@ use Rattle.js_heap.specs.Object.{plain_object}
 use Rattle.js_heap.specs.private.Object.{with_cut}
 use Rattle.js_heap.specs.Heap.{heap_of}
 use Rattle.js_heap.proofs.Lists.{map-set_by}
-use Rattle.js_heap.proofs.Older.{prototypes-set}
 use Rattle.js_heap.proofs.heap.Heap.cut.Goals as goal
 
-pub invariant_of-self-clause-prototypes : goal.invariant_of-self-clause-prototypes
-invariant_of-self-clause-prototypes c =
-    prototypes-set c.args.self.now.objects.items _ _ c.cut.new.self _ c.index.ensures c.requires c.index_mut-record.ensures.value c.cut.ensures.prototype c.args.self.now.prototypes
-
-pub returns : goal.returns
-returns c =
+pub returns-in-Some : goal.returns-in-Some
+returns-in-Some c =
     ap (λ os. record (heap_of c.args.self.now) { objects = os })
-    (map-set_by plain_object (with_cut c.args.size) c.args.self.now.objects.items _ _ c.cut.new.self _ no_object c.index.ensures c.requires c.index_mut-record.ensures.value c.cut.ensures.after)
+    (map-set_by plain_object (with_cut c.args.size) c.args.self.now.objects.items _ _ c.cut.new.self _ no_object c.index.ensures c.in-Some.ensures.item.3.0 c.in-Some.ensures.value c.cut.ensures)

@@ -4,23 +4,18 @@ use Rattle.js_heap.specs.Object.{plain_object, property_with}
 use Rattle.js_heap.specs.Heap.{heap_of}
 use Rattle.js_heap.specs.private.Object.{with_defined}
 use Rattle.js_heap.proofs.Lists.{map-set_by, map-set_same}
-use Rattle.js_heap.proofs.Older.{prototypes-set}
 use Rattle.js_heap.proofs.Outcomes.{OnOk_then, OnErr_then}
 use Rattle.js_heap.proofs.heap.Heap.define.Goals as goal
 
-pub invariant_of-self-clause-prototypes : goal.invariant_of-self-clause-prototypes
-invariant_of-self-clause-prototypes c =
-    prototypes-set c.args.self.now.objects.items _ _ c.define.new.self _ c.index.ensures c.requires.object c.index_mut-record.ensures.value c.define.ensures.prototype c.args.self.now.prototypes
-
-pub returns-clause-ok : goal.returns-clause-ok
-returns-clause-ok c =
+pub returns-in-Some-clause-ok : goal.returns-in-Some-clause-ok
+returns-in-Some-clause-ok c =
     OnOk_then c.define.result c.define.ensures.ok (λ defined.
     ap (λ os. record (heap_of c.args.self.now) { objects = os })
-    (map-set_by plain_object (with_defined (property_with c.args.name.now c.args.value c.args.flags)) c.args.self.now.objects.items _ _ c.define.new.self _ no_object c.index.ensures c.requires.object c.index_mut-record.ensures.value
-    (defined ∙ ap (λ key. with_defined (property_with key c.args.value c.args.flags) (plain_object c.index_mut-record.result.now)) c.in_ok-key.ensures)))
+    (map-set_by plain_object (with_defined (property_with c.args.name.now c.args.value c.args.flags)) c.args.self.now.objects.items _ _ c.define.new.self _ no_object c.index.ensures c.in-Some.ensures.item.3.0 c.in-Some.ensures.value
+    (defined ∙ ap (λ key. with_defined (property_with key c.args.value c.args.flags) (plain_object c.in-Some.record.now)) c.in_ok-key.ensures)))
 
-pub returns-clause-err : goal.returns-clause-err
-returns-clause-err c =
+pub returns-in-Some-clause-err : goal.returns-in-Some-clause-err
+returns-in-Some-clause-err c =
     OnErr_then c.define.result c.define.ensures.err (λ kept.
     ap (λ os. record (heap_of c.args.self.now) { objects = os })
-    (map-set_same plain_object c.args.self.now.objects.items _ _ c.define.new.self _ no_object c.index.ensures c.requires.object c.index_mut-record.ensures.value kept))
+    (map-set_same plain_object c.args.self.now.objects.items _ _ c.define.new.self _ no_object c.index.ensures c.in-Some.ensures.item.3.0 c.in-Some.ensures.value kept))

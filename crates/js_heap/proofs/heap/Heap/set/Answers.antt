@@ -1,41 +1,42 @@
-use Rattle.std.proofs.Common.{ap, ◌∙◌}
+use Rattle.std.proofs.Common.{◌≤◌, length, sym, ap, ◌∙◌, arith}
 use Rattle.js_value.specs.Objects.{no_object, write_of, written, set_by}
 use Rattle.js_heap.specs.Object.{plain_object}
 use Rattle.js_heap.specs.Heap.{heap_of}
 use Rattle.js_heap.specs.private.Write.{write_in}
-use Rattle.js_heap.proofs.Lists.{map-set_by, map-set_same, seen-at}
-use Rattle.js_heap.proofs.Older.{prototypes-set}
+use Rattle.js_heap.proofs.Lists.{map-set_by, map-set_same, seen-at, get_or-map_past}
 use Rattle.js_heap.proofs.Outcomes.{OnOk_then, OnErr_then, IfOk_then}
-use Rattle.js_heap.proofs.WriteLemmas.{write_in-of}
+use Rattle.js_heap.proofs.WriteLemmas.{write_in-of, set_answer-none}
 use Rattle.js_heap.proofs.heap.Heap.set.Goals as goal
 
-pub invariant_of-self-clause-prototypes : goal.invariant_of-self-clause-prototypes
-invariant_of-self-clause-prototypes c =
-    prototypes-set c.args.self.now.objects.items _ _ c.set.new.self _ c.index.ensures c.requires c.index_mut-record.ensures.value c.set.ensures.prototype c.args.self.now.prototypes
-
-pub returns-clause-answer : goal.returns-clause-answer
-returns-clause-answer c =
+pub returns-in-Some-clause-answer : goal.returns-in-Some-clause-answer
+returns-in-Some-clause-answer c =
     let h = heap_of c.args.self.now in
     let o = c.args.object.index in
     let key = c.args.name.now in
-    let at = seen-at plain_object c.args.self.now.objects.items _ o _ no_object c.index.ensures c.requires c.index_mut-record.ensures.value in
+    let at = seen-at plain_object c.args.self.now.objects.items _ o _ no_object c.index.ensures c.in-Some.ensures.item.3.0 c.in-Some.ensures.value in
     IfOk_then c.set.result c.set.ensures.answer (λ _ answer.
     answer ∙ ap (λ r. set_by (write_in r c.bars-barred.result key c.args.value)) at ∙ ap set_by (write_in-of h o key c.args.value c.bars-barred.result c.bars-barred.ensures))
 
-pub returns-clause-ok : goal.returns-clause-ok
-returns-clause-ok c =
+pub returns-in-Some-clause-ok : goal.returns-in-Some-clause-ok
+returns-in-Some-clause-ok c =
     let h = heap_of c.args.self.now in
     let o = c.args.object.index in
     let key = c.args.name.now in
-    let at = seen-at plain_object c.args.self.now.objects.items _ o _ no_object c.index.ensures c.requires c.index_mut-record.ensures.value in
+    let at = seen-at plain_object c.args.self.now.objects.items _ o _ no_object c.index.ensures c.in-Some.ensures.item.3.0 c.in-Some.ensures.value in
     let is = ap (λ r. write_in r c.bars-barred.result key c.args.value) at ∙ write_in-of h o key c.args.value c.bars-barred.result c.bars-barred.ensures in
     OnOk_then c.set.result c.set.ensures.ok (λ done.
     ap (λ os. record h { objects = os })
-    (map-set_by plain_object (λ r. written r (write_of h o key c.args.value) key c.args.value) c.args.self.now.objects.items _ o c.set.new.self _ no_object c.index.ensures c.requires c.index_mut-record.ensures.value
-    (done ∙ ap (λ w. written (plain_object c.index_mut-record.result.now) w key c.args.value) is)))
+    (map-set_by plain_object (λ r. written r (write_of h o key c.args.value) key c.args.value) c.args.self.now.objects.items _ o c.set.new.self _ no_object c.index.ensures c.in-Some.ensures.item.3.0 c.in-Some.ensures.value
+    (done ∙ ap (λ w. written (plain_object c.in-Some.record.now) w key c.args.value) is)))
 
-pub returns-clause-err : goal.returns-clause-err
-returns-clause-err c =
+pub returns-in-Some-clause-err : goal.returns-in-Some-clause-err
+returns-in-Some-clause-err c =
     OnErr_then c.set.result c.set.ensures.err (λ kept.
     ap (λ os. record (heap_of c.args.self.now) { objects = os })
-    (map-set_same plain_object c.args.self.now.objects.items _ _ c.set.new.self _ no_object c.index.ensures c.requires c.index_mut-record.ensures.value kept))
+    (map-set_same plain_object c.args.self.now.objects.items _ _ c.set.new.self _ no_object c.index.ensures c.in-Some.ensures.item.3.0 c.in-Some.ensures.value kept))
+
+pub returns-in-None-clause-answer : goal.returns-in-None-clause-answer
+returns-in-None-clause-answer c =
+    let o = c.args.object.index in
+    let past : length c.args.self.now.objects.items ≤ o = omega (arith, c.in-None.ensures.item.3) in
+    sym (set_answer-none (heap_of c.args.self.now) o c.args.name.now c.args.value (get_or-map_past plain_object c.args.self.now.objects.items o no_object past))

@@ -1,0 +1,17 @@
+use Rattle.std.proofs.Common.{refl, sym, ap, ◌∙◌, position}
+use Rattle.std.specs.Str.{bytes_eq}
+use Rattle.js_value.specs.Environments.{no_binding, assign_to, assigned}
+use Rattle.js_heap.specs.declared.environment.Binding.{Binding}
+use Rattle.js_heap.specs.Environment.{plain_binding}
+use Rattle.js_heap.proofs.Lists.{map-set_by, map-set_same}
+use Rattle.js_heap.proofs.bindings.Bindings.assign.Goals as goal
+
+pub invariant_of-self : goal.invariant_of-self
+invariant_of-self c =
+    let b = c.in-Some.binding.now in
+    let names = map-set_same (λ (b : Binding). b.name) c.args.self.now.items.items c.args.place c.args.place c.assign.new.self b b.name refl c.in-Some.ensures.item.3.0 c.in-Some.ensures.value c.assign.ensures.name in
+    record { indexed = λ i is q. c.args.self.now.indexed i is q ∙ ap (position (λ n. bytes_eq n q)) (sym names) }
+
+pub returns-in-Some-clause-after : goal.returns-in-Some-clause-after
+returns-in-Some-clause-after c =
+    map-set_by plain_binding (λ b. assigned (assign_to b) c.args.value b) c.args.self.now.items.items c.args.place _ c.assign.new.self _ no_binding refl c.in-Some.ensures.item.3.0 c.in-Some.ensures.value c.assign.ensures.after

@@ -1,0 +1,139 @@
+ghost use Rattle.std.specs.Prelude.{◌≡◌, List, ℕ, map, position, IfOk};
+ghost use Rattle.std.specs.Option.{ForSome};
+ghost use Rattle.std.specs.Str.{bytes_eq};
+ghost use Rattle.indexmap.specs.IndexMap.{get_by_text};
+ghost use Rattle.js_heap.specs.private.Bindings.{or_place, IsIndexOf};
+
+use crate::Assign;
+use crate::environment::Binding;
+use indexmap::IndexMap;
+use items::Memory;
+use js_tree::Name;
+use js_value::Value;
+use std::alloc::Global;
+
+/// How many names are looked for along their list.
+const FEW: usize = 8;
+
+/// The names of an environment in the order in which they were declared. A few of them are looked for
+/// along their list, which is quick and takes the least memory. From 9 on an index tells the first
+/// place of each.
+#[derive(Drop)]
+pub struct Bindings {
+    pub(crate) items: Vec<Binding>,
+    index: Option<Box<IndexMap<String, usize>>>,
+    ghost indexed: { ForSome index (λ i. IsIndexOf (get_by_text i.value) (map (λ b. b.name) items.items)) },
+}
+
+/// The index with the place of one more name, if it has none of it yet.
+fn with_name(
+    alloc: Global,
+    index: Box<IndexMap<String, usize>>,
+    name: &Name,
+    place: usize,
+) -> Result<Box<IndexMap<String, usize>>, Memory>
+    ensures { IfOk result (λ made. (q : List ℕ) → get_by_text made.value q
+        ≡ or_place (get_by_text index.value q) (bytes_eq name.now q) place) }
+{
+    let mut index = index;
+    let text = name.as_str();
+    if index.contains_key(text) {
+        return Ok(index);
+    }
+    let key = String::from_str(alloc, text)?;
+    index.insert(key, place)?;
+    Ok(index)
+}
+
+/// The index of these names.
+fn index_of(alloc: Global, bindings: &[Binding]) -> Result<Box<IndexMap<String, usize>>, Memory>
+    ensures { IfOk result (λ made. IsIndexOf (get_by_text made.value) (map (λ b. b.name) bindings.now)) }
+{
+    let mut index = Box::new(alloc, IndexMap::new(alloc))?;
+    for (place, binding) in bindings.iter().enumerate() {
+        index = with_name(alloc, index, &binding.name, place)?;
+    }
+    Ok(index)
+}
+
+impl Bindings {
+    ghost use Rattle.std.specs.Prelude.{[], ◌∷◌, ◌++◌, None, OnOk, OnErr};
+    ghost use Rattle.js_heap.specs.Environment.{plain_bindings, plain_assign};
+    ghost use Rattle.js_value.specs.Environments.{assign_to};
+    ghost use Rattle.js_heap.specs.private.Bindings.{binding_among, with_initialized_among, with_assigned_among};
+
+    /// No names, which take no memory.
+    pub fn none(alloc: Global) -> Bindings
+        ensures { result.items.items ≡ [] }
+    {
+        Bindings {
+            items: Vec::new(alloc),
+            index: None,
+        }
+    }
+
+    /// The first place of this name.
+    pub fn place_of(&self, name: &Name) -> Option<usize>
+        ensures { result ≡ position (λ b. bytes_eq b.name name.now) self.now.items.items }
+    {
+        match &self.index {
+            Some(index) => index.get(name.as_str()).copied(),
+            None => self
+                .items
+                .iter()
+                .position(|binding| binding.name.as_str() == name.as_str()),
+        }
+    }
+
+    /// Puts one more name after the others. On want of memory nothing changes.
+    pub fn push(&mut self, binding: Binding) -> Result<(), Memory>
+        ensures ok { OnOk result (self.new.items.items ≡ self.old.items.items ++ binding ∷ []) }
+        ensures err { OnErr result (self.new.items.items ≡ self.old.items.items) }
+    {
+        let index = self.index_with(&binding.name)?;
+        self.items.push(binding)?;
+        self.index = index;
+        Ok(())
+    }
+
+    /// The index of these names and one more, where there are more than a few. It is taken away from
+    /// these.
+    fn index_with(&mut self, name: &Name) -> Result<Option<Box<IndexMap<String, usize>>>, Memory>
+        ensures index { IfOk result (λ made. ForSome made (λ i.
+            IsIndexOf (get_by_text i.value) (map (λ b. b.name) self.old.items.items ++ name.now ∷ []))) }
+        ensures items { self.new.items ≡ self.old.items }
+        ensures none { self.new.index ≡ None }
+    {
+        let alloc = *self.items.allocator();
+        let place = self.items.len();
+        if let Some(index) = self.index.take() {
+            return Ok(Some(with_name(alloc, index, name, place)?));
+        }
+        if place < FEW {
+            return Ok(None);
+        }
+        let index = index_of(alloc, self.items.as_slice())?;
+        Ok(Some(with_name(alloc, index, name, place)?))
+    }
+
+    /// Gives the name at this place, where there is one, its first value (9.1.1.1.4).
+    pub fn init(&mut self, place: usize, value: Value)
+        ensures { plain_bindings self.new ≡ with_initialized_among place value (plain_bindings self.old) }
+    {
+        if let Some(binding) = self.items.get_mut(place) {
+            binding.value = Some(value);
+        }
+    }
+
+    /// Gives the name at this place the value, where there is one that is initialized and not constant
+    /// (9.1.1.1.5).
+    pub fn assign(&mut self, place: usize, value: Value) -> Assign
+        ensures answer { plain_assign result ≡ assign_to (binding_among (plain_bindings self.old) place) }
+        ensures after { plain_bindings self.new ≡ with_assigned_among place value (plain_bindings self.old) }
+    {
+        match self.items.get_mut(place) {
+            Some(binding) => binding.assign(value),
+            None => Assign::Dead,
+        }
+    }
+}

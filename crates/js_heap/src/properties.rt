@@ -1,0 +1,153 @@
+ghost use Rattle.std.specs.Prelude.{◌≡◌, [], ◌∷◌, ◌++◌, map, filter, not, IfOk};
+ghost use Rattle.std.specs.Option.{ForSome};
+ghost use Rattle.std.specs.Str.{bytes_eq};
+ghost use Rattle.indexmap.specs.IndexSet.{keys};
+
+use crate::object::Property;
+use indexmap::IndexSet;
+use items::Memory;
+use js_value::{Str, Value};
+use std::alloc::Global;
+
+/// How many properties are looked for along their list.
+const FEW: usize = 8;
+
+/// The properties of an object that are no elements, in the order in which they were added. A few of
+/// them are looked for along their list, which is quick and takes the least memory. From 9 on their
+/// keys also stand in an index, each at its property's place.
+#[derive(Drop)]
+pub struct Properties {
+    pub(crate) items: Vec<Property>,
+    index: Option<Box<IndexSet<Str>>>,
+    ghost indexed: { ForSome index (λ i. keys i.value ≡ map (λ p. p.key) items.items) },
+}
+
+/// The index of these properties. There is none where two have one key.
+fn index_of(alloc: Global, properties: &[Property]) -> Result<Option<Box<IndexSet<Str>>>, Memory>
+    ensures { IfOk result (λ made. ForSome made (λ i. keys i.value ≡ map (λ p. p.key) properties.now)) }
+{
+    let mut index = IndexSet::new(alloc);
+    for property in properties {
+        if !index.insert(property.key.copy()?)? {
+            return Ok(None);
+        }
+    }
+    Ok(Some(Box::new(alloc, index)?))
+}
+
+/// The index with one more key. There is none where it has the key.
+fn with_key(index: Box<IndexSet<Str>>, key: &Str) -> Result<Option<Box<IndexSet<Str>>>, Memory>
+    ensures { IfOk result (λ made. ForSome made (λ i. keys i.value ≡ keys index.value ++ key.now ∷ [])) }
+{
+    let mut index = index;
+    if !index.insert(key.copy()?)? {
+        return Ok(None);
+    }
+    Ok(Some(index))
+}
+
+/// The index without the key.
+fn without_key(index: Box<IndexSet<Str>>, key: &Str) -> Box<IndexSet<Str>>
+    ensures { keys result.value ≡ filter (λ k. not (bytes_eq k key.now)) (keys index.value) }
+{
+    let mut index = index;
+    index.retain(|held| held.as_slice() != key.as_slice());
+    index
+}
+
+impl Properties {
+    ghost use Rattle.std.specs.Prelude.{OnOk, OnErr, None, position};
+    ghost use Rattle.js_value.specs.Objects.{with_property, with_value_of};
+    ghost use Rattle.js_heap.specs.Object.{plain_property, plain_properties};
+
+    /// No properties, which take no memory.
+    pub fn none(alloc: Global) -> Properties
+        ensures { result.items.items ≡ [] }
+    {
+        Properties {
+            items: Vec::new(alloc),
+            index: None,
+        }
+    }
+
+    /// The properties, lent.
+    pub fn as_slice(&self) -> &[Property]
+        ensures { result.now ≡ self.now.items.items }
+    {
+        self.items.as_slice()
+    }
+
+    /// The place of the property of this key.
+    pub fn place_of(&self, key: &Str) -> Option<usize>
+        ensures { result ≡ position (λ p. bytes_eq p.key key.now) self.now.items.items }
+    {
+        match &self.index {
+            Some(index) => index.get_index_of(key),
+            None => self.items.iter().position(|property| property.has(key)),
+        }
+    }
+
+    /// Puts one more property after the others. On want of memory nothing changes.
+    pub fn push(&mut self, property: Property) -> Result<(), Memory>
+        ensures ok { OnOk result (self.new.items.items ≡ self.old.items.items ++ property ∷ []) }
+        ensures err { OnErr result (self.new.items.items ≡ self.old.items.items) }
+    {
+        let index = self.index_with(&property.key)?;
+        self.items.push(property)?;
+        self.index = index;
+        Ok(())
+    }
+
+    /// The index of these properties and one more of this key, where there are more than a few. It is
+    /// taken away from these.
+    fn index_with(&mut self, key: &Str) -> Result<Option<Box<IndexSet<Str>>>, Memory>
+        ensures index { IfOk result (λ made. ForSome made (λ i. keys i.value ≡ map (λ p. p.key) self.old.items.items ++ key.now ∷ [])) }
+        ensures items { self.new.items ≡ self.old.items }
+        ensures none { self.new.index ≡ None }
+    {
+        if let Some(index) = self.index.take() {
+            return with_key(index, key);
+        }
+        if self.items.len() < FEW {
+            return Ok(None);
+        }
+        match index_of(*self.items.allocator(), self.items.as_slice())? {
+            Some(index) => with_key(index, key),
+            None => Ok(None),
+        }
+    }
+
+    /// Puts the property in the place of the one of its key, or after the others. On want of memory
+    /// nothing changes.
+    pub fn define(&mut self, property: Property) -> Result<(), Memory>
+        ensures ok { OnOk result (plain_properties self.new
+            ≡ with_property (plain_property property) (plain_properties self.old)) }
+        ensures err { OnErr result (plain_properties self.new ≡ plain_properties self.old) }
+    {
+        match self.place_of(&property.key) {
+            Some(place) => self.items[place] = property,
+            None => self.push(property)?,
+        }
+        Ok(())
+    }
+
+    /// Gives the property of this key, where there is one, the value.
+    pub fn give(&mut self, key: &Str, value: Value)
+        ensures { plain_properties self.new ≡ with_value_of key.now value (plain_properties self.old) }
+    {
+        if let Some(place) = self.place_of(key) {
+            self.items[place].value = value;
+        }
+    }
+
+    /// Takes the properties of this key away. That goes along the whole list and the whole index.
+    pub fn remove(&mut self, key: &Str)
+        ensures { self.new.items.items ≡ filter (λ p. not (bytes_eq p.key key.now)) self.old.items.items }
+    {
+        let index = self.index.take();
+        self.items.retain(|property| !property.has(key));
+        if let Some(index) = index {
+            self.index = Some(without_key(index, key));
+        }
+    }
+}

@@ -1,0 +1,11 @@
+pub mod PairsLemmas
+pub mod TwoCallsKept
+pub mod TwoCallsLemmas
+pub mod TwoHeapsDeleted
+pub mod TwoHeapsLater
+pub mod TwoHeapsOpened
+pub mod TwoHeapsSeen
+pub mod TwoHeapsWritten
+pub mod TwoOperationsLemmas
+pub mod TwoRunsLemmas
+pub mod TwoRunsObjects

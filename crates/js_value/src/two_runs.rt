@@ -1,6 +1,0 @@
-ghost use Rattle.js_value.specs.TwoRuns.{AllBuiltInsRelated};
-
-/// In two runs whose heaps are related the built-in functions do related deeds.
-pub fn built_ins_related()
-    ensures { AllBuiltInsRelated }
-{}
