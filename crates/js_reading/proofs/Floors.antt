@@ -2,7 +2,7 @@
 use Rattle.std.proofs.Common.{◌≡◌, ℕ, ◌+◌, ◌≤◌, max, true, false, ◌&&◌, List, [], ◌∷◌, ◌++◌, Option, Some, None, refl, sym, ap, ◌∙◌, subst, arith, le_trans, le_refl}
 use Rattle.std.specs.Prelude.{nat_le}
 use Rattle.js_tree.specs.declared.place.Loc.{Loc}
-use Rattle.js_tree.specs.Plain.{Expr, Exprs, no_expr, more_expr, push_exprs, Stmt, Stmts, no_stmt, more_stmt, push_stmts, File, MakeFile}
+use Rattle.js_tree.specs.Plain.{Expr, Exprs, no_expr, push_exprs, Stmt, Stmts, no_stmt, more_stmt, push_stmts, File, MakeFile}
 use Rattle.js_tree.specs.Height.{height_expr, height_exprs, height_stmt, height_stmts, height_file}
 use Rattle.js_text.specs.Token.{Token, End}
 use Rattle.js_text.specs.Level.{assignment}
@@ -17,10 +17,11 @@ use Rattle.js_reading.specs.Productions.{primary, is_mark, piece_of, slots, pref
 use Rattle.js_reading.specs.Choices.{branch}
 use Rattle.js_reading.specs.Makes.{build, is_declaration, with_directives}
 use Rattle.js_reading.specs.Sentences.{leaf_of, fits, continues, closes, Sentence}
-use Rattle.js_reading.specs.Turns.{Frame, InForm, InExpression, InStmts, InFile, InItems, Config, Due, Have, Item, Start, Finished, enter, begin_form, begin_leaf, want_by, want, begin_by, begin, texted, take, pass, wanted, banned, take_second, shift, is_name, listed, leave, finished, left, have, item, turn, then_run, run, tree_of}
+use Rattle.js_reading.specs.Turns.{place, leads, Frame, InForm, InExpression, InStmts, InFile, InItems, Config, Due, Have, Item, Start, Finished, enter, begin_form, begin_leaf, want_by, want, begin_by, begin, texted, take, pass, wanted, banned, take_second, shift, is_name, listed, leave, finished, left, have, item, turn, then_run, run, tree_of}
 use Rattle.js_reading.specs.Open.{height, heights, lift, up, floor}
 use Rattle.js_reading.proofs.Heights.{Raises, height_made, directives_same}
-use Rattle.js_reading.proofs.Passing.{by_bool, by_branch}
+use Rattle.js_reading.proofs.Standing.{heights_append, exprs_pushed}
+use Rattle.js_reading.proofs.Runs.{nowhere, by_bool, by_branch}
 use Rattle.js_reading.proofs.Reading.{complete}
 use Rattle.js_reading.proofs.Sound.{stepped}
 
@@ -35,14 +36,6 @@ floor_reach (Due f w ss ps l fs) = le_refl _
 floor_reach (Have p l fs) = le_refl _
 floor_reach (Item fs) = le_refl _
 floor_reach Start = le_refl _
-
-heights_append : (ps qs : List Piece) → heights (ps ++ qs) ≡ max (heights ps) (heights qs)
-heights_append [] qs = omega arith
-heights_append (p ∷ ps) qs = let e = heights_append ps qs in omega arith
-
-exprs_pushed : (xs : Exprs) (e : Expr) → height_exprs (push_exprs xs e) ≡ max (height_exprs xs) (height_expr e)
-exprs_pushed no_expr e = omega arith
-exprs_pushed (more_expr x xs) e = let r = exprs_pushed xs e in omega (arith, r)
 
 stmts_pushed : (xs : Stmts) (s : Stmt) → height_stmts (push_stmts xs s) ≡ max (height_stmts xs) (height_stmt s)
 stmts_pushed no_stmt s = omega arith
@@ -79,14 +72,14 @@ want_up t fs d h = by_form (prefix t) h
 
     by_form : (o : Option Form) → want_by o t fs ≡ Some d → up fs 0 ≤ reach d
     by_form None q = by_leaf (leaf_of t.kind t.loc) q
-    by_form (Some f) q = form_up f t (slots f) fs d q
+    by_form (Some f) q = by_bool _ _ _ d (λ c g. form_up f t (slots f) fs d g) (λ c g. nowhere g) q
 
 begin_up : (t : Token) (fs : List Frame) (d : Config) → begin t fs ≡ Some d → up fs 0 ≤ reach d
 begin_up t fs d h = by_form (statement t) h
   where
     by_form : (o : Option Form) → begin_by o t fs ≡ Some d → up fs 0 ≤ reach d
     by_form None q = le_trans (up_mono fs 0 (lift (InExpression t.loc) 0) (omega arith)) (want_up t (InExpression t.loc ∷ fs) d q)
-    by_form (Some f) q = form_up f t (slots f) fs d q
+    by_form (Some f) q = by_bool _ _ _ d (λ c g. nowhere g) (λ c g. form_up f t (slots f) fs d g) q
 
 take_up : (f : Form) (w : Loc) (s : Slot) (ss : List Slot) (ps : List Piece) (fs : List Frame) (t : Token) (d : Config) → take f w s ss ps fs t ≡ Some d → up fs (heights ps + 1) ≤ reach d
 take_up f w (Sign k) ss ps fs t d h = by_bool (is_kind k t.kind) _ _ d (λ e q. lands (up fs (heights ps + 1)) q (le_refl _)) (λ e q. absurd cc) h
@@ -125,7 +118,7 @@ pass_up f w (Stmts_ ∷ ss) ps l fs t d rec h =
 pass_up f w (By c ∷ ss) ps l fs t d rec h =
     by_branch (branch c t) _ _ d
     (λ qs e q. let r = heights_append ps qs in le_trans (up_mono fs (heights ps + 1) (heights (ps ++ qs) + 1) (omega (arith, r))) (pass_up f w ss (ps ++ qs) l fs t d rec q))
-    (λ qs s rs e q. let r = heights_append ps qs in le_trans (up_mono fs (heights ps + 1) (heights (ps ++ qs) + 1) (omega (arith, r))) (take_up f w s (rs ++ ss) (ps ++ qs) fs t d q)) h
+    (λ qs s rs e q. let r = heights_append ps qs in le_trans (up_mono fs (heights ps + 1) (heights (ps ++ qs) + 1) (omega (arith, r))) (by_bool (leads (place fs) c) _ _ d (λ k g. take_up f w s (rs ++ ss) (ps ++ qs) fs t d g) (λ k g. nowhere g) q)) h
 pass_up f w (s ∷ ss) ps l fs t d rec h = take_up f w s ss ps fs t d h
 
 second_up : (f : Form) (i : ℕ) (e : Expr) (l : Loc) (fs : List Frame) (t : Token) (ss : List Slot) (d : Config) → take_second f i e l fs t ss ≡ Some d → up fs (height_expr e) ≤ reach d
@@ -134,7 +127,7 @@ second_up f i e l fs t ss d h = absurd cc
 
 shift_up : (o : Option Form) (i : ℕ) (e : Expr) (l : Loc) (fs : List Frame) (t : Token) (d : Config) → shift o i e l fs t ≡ Some d → up fs (height_expr e) ≤ reach d
 shift_up None i e l fs t d h = absurd cc
-shift_up (Some f) i e l fs t d h = by_bool (nat_le (wants (Some f)) i) _ _ d (λ c q. second_up f i e l fs t (after_first (slots f)) d q) (λ c q. absurd cc) h
+shift_up (Some f) i e l fs t d h = by_bool (nat_le (wants (Some f)) i && fits (place fs) i e) _ _ d (λ c q. second_up f i e l fs t (after_first (slots f)) d q) (λ c q. absurd cc) h
 
 listed_up : (f : Form) (w : Loc) (p : Punctuator) (ss : List Slot) (ps : List Piece) (xs : Exprs) (fs : List Frame) (t : Token) (d : Config) → listed f w p ss ps xs fs t ≡ Some d → up fs (max (heights ps) (height_exprs xs) + 1) ≤ reach d
 listed_up f w p ss ps xs fs t d h =

@@ -1,7 +1,8 @@
 -- A part that stands in frames before a token: what has been read goes on to stand for a place.
-use Rattle.std.proofs.Common.{◌≡◌, ℕ, ◌≤◌, Bool, false, List, [], ◌∷◌, ◌++◌, Some, if◌then◌else◌, refl, sym, ap, subst, ◌∙◌, append_assoc}
+use Rattle.std.proofs.Common.{◌≡◌, ℕ, ◌≤◌, max, arith, Bool, false, List, [], ◌∷◌, ◌++◌, Some, if◌then◌else◌, refl, sym, ap, subst, ◌∙◌, append_assoc}
 use Rattle.js_tree.specs.declared.place.Loc.{Loc}
 use Rattle.js_tree.specs.Plain.{Expr, Exprs, no_expr, more_expr, push_exprs, Stmt, push_stmts}
+use Rattle.js_tree.specs.Height.{height_expr, height_exprs}
 use Rattle.js_text.specs.Token.{Token, Kind, End}
 use Rattle.js_text.specs.Token as T
 use Rattle.js_text.specs.declared.punctuator.Punctuator.{Punctuator}
@@ -16,12 +17,15 @@ use Rattle.js_reading.specs.Makes.{is_declaration}
 use Rattle.js_reading.specs.Sentences
 use Rattle.js_reading.specs.Sentences.{fits, continues, goes_on, closes, Spells, SpellsSlots, SpellsItems, SpellsStmts, Sentence}
 use Rattle.js_reading.specs.Turns.{Frame, InForm, InStmts, InItems, Config, Due, Item, Finished, begin, pass, banned, listed, have}
+use Rattle.js_reading.specs.Open.{OpensItems, after_item}
+use Rattle.js_reading.proofs.Allowed.{gripped}
 use Rattle.js_reading.proofs.KindsLemmas.{kind_is}
 use Rattle.js_reading.proofs.Lists.{append_exprs, exprs_push, exprs_last}
 use Rattle.js_reading.proofs.Shapes.{first_append}
-use Rattle.js_reading.proofs.Standing.{Only, Sort, AsStmt, IsOf, after_expr, after_stmt, after_stmts, after_items, stmts_then}
-use Rattle.js_reading.proofs.Places.{Frames, in_file, in_stmts, in_expr, in_stmt, in_items, Open, opened, Reads, due, item_next, at_end, grow, begin_sound}
-use Rattle.js_reading.proofs.Passing.{by_bool, pass_sound, shift_sound, have_option}
+use Rattle.js_reading.proofs.Standing.{exprs_pushed, Only, Sort, AsStmt, IsOf, after_expr, after_stmt, after_stmts, after_items, stmts_then}
+use Rattle.js_reading.proofs.Places.{Frames, in_file, in_stmts, in_expr, in_stmt, in_items, Open, opened, Reads, due, item_next, at_end, grow, begin_sound, items_more}
+use Rattle.js_reading.proofs.Runs.{by_bool}
+use Rattle.js_reading.proofs.Passing.{pass_sound, shift_sound, have_option}
 
 -- the same tokens, put together
 pub further : {d : Config} (u vs ts : List Token) (t : Token) → Reads d ((u ++ (vs ++ ts)) ++ t ∷ []) → Reads d (((u ++ vs) ++ ts) ++ t ∷ [])
@@ -75,7 +79,7 @@ pub expr_sound : {f : Form} {w l0 : Loc} {v : Wanted} {ss : List Slot} {ps : Lis
     have (InForm f w (Expr_ v) ss ps ∷ fs) (Some (AnExpr i e)) l t ≡ Some d → Reads d ((u ++ b ∷ ts) ++ t ∷ [])
 expr_sound {f = f} {w = w} {v = v} {ss = ss} {ps = ps} {fs = fs} {ts = ts} {l = l} {d = d} {i = i} {e = e} b t (opened {u = u} {us = us} a fr kd tail) de rec h =
     by_bool (continues v e t) _ _ d
-    (λ c g. by_bool (banned t (InForm f w (Expr_ v) ss ps ∷ fs)) _ _ d (λ x q. absurd cc) (λ x q. shift_sound b t (in_expr (opened a fr kd tail)) de q) g)
+    (λ c g. by_bool (banned t (InForm f w (Expr_ v) ss ps ∷ fs)) _ _ d (λ x q. absurd cc) (λ x q. shift_sound b t (in_expr (opened a fr kd tail)) de x (λ g is. gripped (InForm f w (Expr_ v) ss ps) fs e t g c is) q) g)
     (λ c g. by_bool (fits v i e) _ _ d
     (λ fit q. further u (a ∷ us) (b ∷ ts) t
     (pass_sound f w ss (ps ++ AnExpr i e ∷ []) l fs u (us ++ b ∷ ts) a t d (λ p m. have fs p m t) fr kd (after_expr b t fit de c tail) (λ o m so sp r. have_option fs u a o m t d fr so (λ p x is y. rec _ u a (us ++ b ∷ ts) p m fr is (sp p x is) y) r) q))
@@ -83,14 +87,15 @@ expr_sound {f = f} {w = w} {v = v} {ss = ss} {ps = ps} {fs = fs} {ts = ts} {l = 
 
 -- an expression in a list of items
 pub item_sound : {f : Form} {w : Loc} {p : Punctuator} {ss : List Slot} {ps : List Piece} {fs : List Frame} (acc : Exprs) {l0 : Loc} {u ts : List Token} {l : Loc} {d : Config} {i : ℕ} {e : Expr} (vs : List Token) (a b t : Token) → Open f w (Items_ p ∷ ss) ps l0 fs u (Only a) →
-    ((x : Bool) (xs : Exprs) (us : List Token) (n : Token) → SpellsItems x xs us n → SpellsItems x (append_exprs acc xs) (vs ++ us) n) → first vs b ≡ a → Spells (AnExpr i e) l (b ∷ ts) t → continues (Level assignment) e t ≡ false → assignment ≤ i →
+    ((x : Bool) (xs : Exprs) (us : List Token) (n : Token) → SpellsItems x xs us n → SpellsItems x (append_exprs acc xs) (vs ++ us) n) → ((h : ℕ) (us : List Token) → OpensItems h us → OpensItems (max (height_exprs acc) h) (vs ++ us)) → first vs b ≡ a → Spells (AnExpr i e) l (b ∷ ts) t → continues (Level assignment) e t ≡ false → assignment ≤ i →
     listed f w p ss ps (push_exprs acc e) fs t ≡ Some d → Reads d (((u ++ vs) ++ b ∷ ts) ++ t ∷ [])
-item_sound {f = f} {w = w} {p = p} {ss = ss} {ps = ps} {fs = fs} acc {u = u} {ts = ts} {d = d} {e = e} vs a b t o items is de go ge h =
+item_sound {f = f} {w = w} {p = p} {ss = ss} {ps = ps} {fs = fs} acc {u = u} {ts = ts} {d = d} {e = e} vs a b t o items opens is de go ge h =
     by_bool (is_mark P.Comma t) _ _ d
     (λ c q. let r : Item (InItems f w p ss ps (push_exprs acc e) ∷ fs) ≡ d = cc in
     subst (λ y. Reads y (((u ++ vs) ++ b ∷ ts) ++ t ∷ [])) r (subst (λ y. Reads (Item (InItems f w p ss ps (push_exprs acc e) ∷ fs)) y) regrouped
     (item_next (in_items (vs ++ b ∷ (ts ++ t ∷ [])) a o
     (λ x xs us n dxs. subst (λ y. SpellsItems x y ((vs ++ b ∷ (ts ++ t ∷ [])) ++ us) n) (sym (exprs_push acc e xs)) (subst (λ y. SpellsItems x (append_exprs acc (more_expr e xs)) y n) (on us) (items x (more_expr e xs) (b ∷ (ts ++ t ∷ us)) n (Sentences.more_items t ge de (kind_is (T.Punctuator P.Comma) t.kind c) dxs))))
+    (λ n us dxs. let r = exprs_pushed acc e in items_more (omega (arith, r)) (on us) (opens (max (height_expr e) n) (b ∷ (ts ++ t ∷ us)) (after_item t ge de (kind_is (T.Punctuator P.Comma) t.kind c) dxs)))
     (λ n z. first_append vs (b ∷ (ts ++ t ∷ [])) n ∙ is)))))
     (λ c q. by_bool (is_mark p t) _ _ d
     (λ k g. let r : Due f w ss (ps ++ TheExprs false (push_exprs acc e) ∷ []) t.loc fs ≡ d = cc in

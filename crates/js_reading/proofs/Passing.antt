@@ -1,34 +1,25 @@
 -- A token where slots are next, and one after an expression: what has been read goes on to stand for a place.
-use Rattle.std.proofs.Common.{◌≡◌, ℕ, ◌≤◌, Bool, true, false, List, [], ◌∷◌, ◌++◌, Option, Some, None, if◌then◌else◌, refl, sym, subst, ◌∙◌, append_assoc, append-nil}
+use Rattle.std.proofs.Common.{◌≡◌, ℕ, ◌≤◌, Bool, true, false, ◌&&◌, List, [], ◌∷◌, ◌++◌, Option, Some, None, refl, sym, ap, subst, arith, ◌∙◌, append_assoc, append-nil}
 use Rattle.std.specs.Prelude.{nat_le}
-use Rattle.std.proofs.lemmas.Bool.{true≢false, leb-true}
+use Rattle.std.proofs.lemmas.Bool.{true≢false, leb-true, and_parts}
 use Rattle.js_tree.specs.declared.place.Loc.{Loc}
 use Rattle.js_tree.specs.Plain.{Expr, Stmt, no_stmt}
 use Rattle.js_text.specs.Token.{Token}
 use Rattle.js_text.specs.Grammar.{through}
-use Rattle.js_reading.specs.Slots.{Level, Slot, Sign, Expr_, Stmts_, Place_, By, Piece, AnExpr, AStmt, TheStmts, APlace, Branch, Refuse, Pass, Go, Form}
-use Rattle.js_reading.specs.Productions.{slots, join, joins, wants, first_level, after_first, begins_with}
+use Rattle.js_reading.specs.Slots.{Level, Slot, Sign, Expr_, Stmts_, Place_, By, Piece, AnExpr, AStmt, TheStmts, APlace, Form}
+use Rattle.js_reading.specs.Productions.{slots, join, joins, wants, form_level, first_level, after_first, begins_with}
 use Rattle.js_reading.specs.Choices.{branch}
 use Rattle.js_reading.specs.Makes.{build}
 use Rattle.js_reading.specs.Sentences
-use Rattle.js_reading.specs.Sentences.{closes, Spells, SpellsSlots, SpellsStmts}
-use Rattle.js_reading.specs.Turns.{Frame, Config, Due, take_second, choose, pass, shift, have}
+use Rattle.js_reading.specs.Sentences.{grip, bans, fits, closes, Spells, SpellsSlots, SpellsStmts}
+use Rattle.js_reading.specs.Turns.{place, leads, Frame, Config, Due, take_second, pass, shift, have}
+use Rattle.js_reading.specs.Open.{past, in_joined}
+use Rattle.js_reading.proofs.Runs.{nowhere, by_bool, by_branch}
 use Rattle.js_reading.proofs.KindsLemmas.{kind_is}
 use Rattle.js_reading.proofs.Shapes.{find_all, join_found}
 use Rattle.js_reading.proofs.OnlyStatements.{NoExpr, no_expr_made}
-use Rattle.js_reading.proofs.Standing.{When, Any, Only, Sort, AsExpr, AsStmt, IsOf, Tail, still, after_place, after_stmts, after_passed, after_chosen, spelled}
+use Rattle.js_reading.proofs.Standing.{When, Any, Only, Sort, AsExpr, AsStmt, IsOf, Tail, of_height, still, after_place, after_stmts, after_passed, after_chosen, spelled}
 use Rattle.js_reading.proofs.Places.{Kindly, Frames, in_stmts, in_expression, in_expr, in_items, opened, Reads, due, begin_sound, take_sound}
-
--- one of two, where it leads to a place
-pub by_bool : {A : Type 0} (b : Bool) (x y : Option Config) (d : Config) → (b ≡ true → x ≡ Some d → A) → (b ≡ false → y ≡ Some d → A) → (if b then x else y) ≡ Some d → A
-by_bool true x y d f g h = f refl h
-by_bool false x y d f g h = g refl h
-
-pub by_branch : {A : Type 0} (x : Branch) (on : List Piece → Option Config) (go : List Piece → Slot → List Slot → Option Config) (d : Config) → ((qs : List Piece) → x ≡ Pass qs → on qs ≡ Some d → A) →
-    ((qs : List Piece) (s : Slot) (rs : List Slot) → x ≡ Go qs s rs → go qs s rs ≡ Some d → A) → choose x on go ≡ Some d → A
-by_branch Refuse on go d f g h = absurd cc
-by_branch (Pass qs) on go d f g h = f qs refl h
-by_branch (Go qs s rs) on go d f g h = g qs s rs refl h
 
 abbrev pub Sorted : Sort → Option Piece → Type 0
 Sorted AsStmt o = NoExpr o
@@ -43,7 +34,7 @@ abbrev pub Ends : Sort → (Option Piece → Loc → Option Config) → Config �
 Ends k go d u vs t = (o : Option Piece) (m : Loc) → Sorted k o → ((p : Piece) → o ≡ Some p → IsOf k p → Spells p m vs t) → go o m ≡ Some d → Reads d ((u ++ vs) ++ t ∷ [])
 
 pub pass_sound : {k : Sort} (f : Form) (w : Loc) (ss : List Slot) (ps : List Piece) (l : Loc) (fs : List Frame) (u us : List Token) (b t : Token) (d : Config) (go : Option Piece → Loc → Option Config) → Frames k fs u (Only b) → Kindly k f →
-    Tail k (Only t) f w ss ps l (b ∷ us) → Ends k go d u (b ∷ us) t → pass f w ss ps l fs t go ≡ Some d → Reads d ((u ++ b ∷ us) ++ t ∷ [])
+    Tail k fs (Only t) f w ss ps l (b ∷ us) → Ends k go d u (b ∷ us) t → pass f w ss ps l fs t go ≡ Some d → Reads d ((u ++ b ∷ us) ++ t ∷ [])
 pass_sound {k = k} f w [] ps l fs u us b t d go fr kd tail ends h = ends (build f (through w l) ps) (through w l) (sorted k f (through w l) ps kd) (λ p e is. spelled tail is e t refl) h
 pass_sound f w (Place_ ∷ ss) ps l fs u us b t d go fr kd tail ends h = pass_sound f w ss (ps ++ APlace l ∷ []) l fs u us b t d go fr kd (after_place tail) ends h
 pass_sound f w (Stmts_ ∷ ss) ps l fs u us b t d go fr kd tail ends h =
@@ -53,7 +44,7 @@ pass_sound f w (Stmts_ ∷ ss) ps l fs u us b t d go fr kd tail ends h =
 pass_sound f w (By c ∷ ss) ps l fs u us b t d go fr kd tail ends h =
     by_branch (branch c t) _ _ d
     (λ qs e g. pass_sound f w ss (ps ++ qs) l fs u us b t d go fr kd (after_passed t e tail) ends g)
-    (λ qs s rs e g. take_sound s t (opened b fr kd (after_chosen t e tail)) g) h
+    (λ qs s rs e g. by_bool (leads (place fs) c) _ _ d (λ may q. take_sound s t (opened b fr kd (after_chosen t e may tail)) q) (λ no q. nowhere q) g) h
 pass_sound f w (s ∷ ss) ps l fs u us b t d go fr kd tail ends h = take_sound s t (opened b fr kd tail) h
 
 -- ---- an expression that goes on with a token
@@ -62,14 +53,16 @@ abbrev pub is_leveled : List Slot → Bool
 is_leveled (Expr_ (Level n) ∷ Sign k ∷ ss) = true
 is_leveled ss = false
 
-pub shift_sound : {fs : List Frame} {u ts : List Token} {i : ℕ} {e : Expr} {l : Loc} {d : Config} (b t : Token) → Frames AsExpr fs u (Only b) → Spells (AnExpr i e) l (b ∷ ts) t → shift (join t) i e l fs t ≡ Some d → Reads d ((u ++ b ∷ ts) ++ t ∷ [])
-shift_sound {fs = fs} {u = u} {ts = ts} {i = i} {e = e} {l = l} {d = d} b t fr de h = by_form (join t) refl h
+pub shift_sound : {fs : List Frame} {u ts : List Token} {i : ℕ} {e : Expr} {l : Loc} {d : Config} (b t : Token) → Frames AsExpr fs u (Only b) → Spells (AnExpr i e) l (b ∷ ts) t → bans (place fs) t ≡ false → ((g : Form) → join t ≡ Some g → grip (place fs) ≤ form_level g) → shift (join t) i e l fs t ≡ Some d → Reads d ((u ++ b ∷ ts) ++ t ∷ [])
+shift_sound {fs = fs} {u = u} {ts = ts} {i = i} {e = e} {l = l} {d = d} b t fr de free tight h = by_form (join t) refl h
   where
-    by_slots : (g : Form) (ss : List Slot) → join t ≡ Some g → slots g ≡ ss → is_leveled ss ≡ true → begins_with (after_first ss) t ≡ true → first_level ss ≤ i → take_second g i e l fs t (after_first ss) ≡ Some d → Reads d ((u ++ b ∷ ts) ++ t ∷ [])
-    by_slots g (Expr_ (Level n) ∷ Sign j ∷ ss) is are leveled told low q =
+    by_slots : (g : Form) (ss : List Slot) → join t ≡ Some g → slots g ≡ ss → is_leveled ss ≡ true → begins_with (after_first ss) t ≡ true → first_level ss ≤ i → fits (place fs) i e ≡ true → take_second g i e l fs t (after_first ss) ≡ Some d → Reads d ((u ++ b ∷ ts) ++ t ∷ [])
+    by_slots g (Expr_ (Level n) ∷ Sign j ∷ ss) is are leveled told low fit q =
         let r : Due g l ss (AnExpr i e ∷ []) t.loc fs ≡ d = cc in
-        let tail : Tail AsExpr Any g l ss (AnExpr i e ∷ []) t.loc (b ∷ (ts ++ t ∷ [])) = record {
+        let tail : Tail AsExpr fs Any g l ss (AnExpr i e ∷ []) t.loc (b ∷ (ts ++ t ∷ [])) = record {
           spells = λ {qs} {m} {ts = vs} {next} {p} sort _ dd made. made_expr p sort m vs next made (Sentences.sign t (kind_is j t.kind told) dd);
+          begins = λ {n = h} {ts = vs} next _ dd.
+              of_height AsExpr fs (in_joined g t vs is are free (tight g is) low fit de (past next refl (Sentences.sign {l = l} t (kind_is j t.kind told) Sentences.done) dd)) (omega arith) (ap (λ z. b ∷ z) (sym (append_assoc ts (t ∷ []) vs)));
         } in
         subst (λ y. Reads y ((u ++ b ∷ ts) ++ t ∷ [])) r (subst (λ y. Reads (Due g l ss (AnExpr i e ∷ []) t.loc fs) y) (sym (append_assoc u (b ∷ ts) (t ∷ []))) (due (opened b fr tt tail)))
       where
@@ -77,18 +70,18 @@ shift_sound {fs = fs} {u = u} {ts = ts} {i = i} {e = e} {l = l} {d = d} b t fr d
         made_expr (AnExpr x y) sort m vs next made dd =
             subst (λ z. Spells (AnExpr x y) (through l m) (b ∷ z) next) (sym (append_assoc ts (t ∷ []) vs)) (Sentences.joined g t is are low de dd made)
         made_expr p sort m vs next made dd = absurd sort
-    by_slots g ss is are leveled told low q = absurd (true≢false (sym leveled))
+    by_slots g ss is are leveled told low fit q = absurd (true≢false (sym leveled))
 
     by_form : (o : Option Form) → join t ≡ o → shift o i e l fs t ≡ Some d → Reads d ((u ++ b ∷ ts) ++ t ∷ [])
     by_form None is q = absurd cc
     by_form (Some g) is q =
         let leveled = find_all (λ f. is_leveled (slots f)) after_first joins t g refl (join_found t g is) in
-        by_bool (nat_le (wants (Some g)) i) _ _ d (λ low r. by_slots g (slots g) is refl leveled.0 leveled.1 (leb-true _ _ low) r) (λ low r. absurd cc) q
+        by_bool (nat_le (wants (Some g)) i && fits (place fs) i e) _ _ d (λ both r. let c = and_parts (nat_le (wants (Some g)) i) (fits (place fs) i e) both in by_slots g (slots g) is refl leveled.0 leveled.1 (leb-true _ _ c.0) c.1 r) (λ low r. absurd cc) q
 
 no_left : {fs : List Frame} {u : List Token} {c : When} → Frames AsExpr fs u c → (s : Stmt) (m : Loc) (t : Token) → have fs (Some (AStmt s)) m t ≡ None
 no_left (in_expression b fr none) s m t = refl
 no_left (in_expr o) s m t = refl
-no_left (in_items ts b o items firsts) s m t = refl
+no_left (in_items ts b o items opens firsts) s m t = refl
 
 -- a production that is there, in frames of its sort
 pub have_option : {k : Sort} {A : Type 0} (fs : List Frame) (u : List Token) (b : Token) (o : Option Piece) (m : Loc) (t : Token) (d : Config) → Frames k fs u (Only b) → Sorted k o → ((p : Piece) → o ≡ Some p → IsOf k p → have fs (Some p) m t ≡ Some d → A) →

@@ -14,7 +14,8 @@ use Rattle.js_reading.specs.Slots as slot
 use Rattle.js_reading.specs.Productions.{is_word, slots, begins_with, after_first, find, prefixes, joins, statements, as_it_is, prefix, statement, join, on_line, same_line}
 use Rattle.js_reading.specs.Choices.{branch}
 use Rattle.js_reading.specs.Makes.{bare_in}
-use Rattle.js_reading.specs.Turns.{Frame, InForm, Config, begin_form, take_second, pass, banned}
+use Rattle.js_reading.specs.Sentences.{bans}
+use Rattle.js_reading.specs.Turns.{Frame, Config, place, begin_form, take_second, pass, banned}
 use Rattle.js_reading.proofs.Branches.{branches, each, among}
 
 -- ---- lists of tokens
@@ -141,18 +142,19 @@ last_is (q ∷ r ∷ ps) p = last_is (r ∷ ps) p
 
 -- ---- frames in which `in` is banned
 
+abbrev pub without : Wanted → Bool
+without (WithoutIn n) = true
+without v = false
+
 abbrev pub shut : List Frame → Bool
-shut [] = false
-shut (InForm f w (Expr_ (WithoutIn n)) ss ps ∷ fs) = true
-shut (InForm f w (Expr_ n) [] ps ∷ fs) = shut fs
-shut (f ∷ fs) = false
+shut fs = without (place fs)
 
 pub banned_shut : (t : Token) (fs : List Frame) → banned t fs ≡ true → (shut fs ≡ true) × (is_word (codes "in") t ≡ true)
-banned_shut t [] h = absurd (true≢false (sym h))
-banned_shut t (InForm f w (Expr_ (WithoutIn n)) ss ps ∷ fs) h = (refl, h)
-banned_shut t (InForm f w (Expr_ (Level n)) [] ps ∷ fs) h = banned_shut t fs h
-banned_shut t (InForm f w (Expr_ Callee) [] ps ∷ fs) h = banned_shut t fs h
-banned_shut t (f ∷ fs) h = absurd (true≢false (sym h))
+banned_shut t fs h = by_place (place fs) h
+  where
+    by_place : (v : Wanted) → bans v t ≡ true → (without v ≡ true) × (is_word (codes "in") t ≡ true)
+    by_place (WithoutIn n) k = (refl, k)
+    by_place v k = absurd (true≢false (sym k))
 
 -- ---- what is found
 

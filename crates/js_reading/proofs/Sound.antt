@@ -1,5 +1,5 @@
 -- What has been read stands for the tokens: a run that ends has read a sentence.
-use Rattle.std.proofs.Common.{◌≡◌, ℕ, Bool, true, false, ◌&&◌, List, [], ◌∷◌, ◌++◌, Option, Some, None, refl, sym, subst, append_assoc, append-nil}
+use Rattle.std.proofs.Common.{◌≡◌, ℕ, ◌+◌, max, arith, Bool, true, false, ◌&&◌, List, [], ◌∷◌, ◌++◌, Option, Some, None, refl, sym, ap, subst, append_assoc, append-nil}
 use Rattle.std.specs.Prelude.{nat_le}
 use Rattle.std.proofs.lemmas.Bool.{leb-true, le-leb, and_parts}
 use Rattle.js_tree.specs.declared.place.Loc.{Loc}
@@ -17,14 +17,18 @@ use Rattle.js_reading.specs.Productions.{primary, is_mark, statement}
 use Rattle.js_reading.specs.Makes.{build, with_directives}
 use Rattle.js_reading.specs.Sentences
 use Rattle.js_reading.specs.Sentences.{fits, continues, goes_on, Spells, SpellsSlots, SpellsItems, SpellsStmts, Sentence}
-use Rattle.js_reading.specs.Turns.{Frame, InExpression, InItems, Config, Due, Start, Finished, enter, pass, is_name, begin_file, have, item, turn, run, then_run, tree_of}
+use Rattle.js_reading.specs.Open
+use Rattle.js_reading.specs.Open.{heights, OpensSlots, past, in_labelled}
+use Rattle.js_reading.specs.Turns.{place, Frame, InExpression, InItems, Config, Due, Start, Finished, enter, pass, is_name, begin_file, have, item, turn, run, then_run, tree_of}
+use Rattle.js_reading.proofs.Allowed.{gripped}
 use Rattle.js_reading.proofs.KindsLemmas.{kind_is}
 use Rattle.js_reading.proofs.Lists.{append_exprs, exprs_end}
 use Rattle.js_reading.proofs.Firsts.{remade}
 use Rattle.js_reading.proofs.Levels.{some_level}
-use Rattle.js_reading.proofs.Standing.{Any, Only, AsExpr, AsStmt, IsOf, Tail, after_items, narrowed}
-use Rattle.js_reading.proofs.Places.{Frames, in_file, in_expression, in_expr, in_items, Open, opened, Reads, due, having, item_next, not_begun, at_end, grow, want_sound, begin_sound}
-use Rattle.js_reading.proofs.Passing.{by_bool, pass_sound, shift_sound, have_option}
+use Rattle.js_reading.proofs.Standing.{Any, Only, AsExpr, AsStmt, IsOf, Begun, Tail, of_height, after_items, narrowed}
+use Rattle.js_reading.proofs.Places.{Frames, in_file, in_expression, in_expr, in_items, Open, opened, Reads, due, having, item_next, any_place, not_begun, at_end, grow, want_sound, begin_sound}
+use Rattle.js_reading.proofs.Runs.{by_bool}
+use Rattle.js_reading.proofs.Passing.{pass_sound, shift_sound, have_option}
 use Rattle.js_reading.proofs.Having.{Sound, stmt_sound, expr_sound, item_sound}
 
 -- no expression goes on with a colon
@@ -36,9 +40,12 @@ expression_sound : {fs : List Frame} {u ts : List Token} {l : Loc} {d : Config} 
     have (InExpression b.loc ∷ fs) (Some (AnExpr i e)) l t ≡ Some d → Reads d ((u ++ b ∷ ts) ++ t ∷ [])
 expression_sound {fs = fs} {u = u} {ts = ts} {l = l} {d = d} {i = i} {e = e} b t fr none de rec h =
     by_bool (continues (Level any) e t) _ _ d
-    (λ c g. shift_sound b t (in_expression b fr none) de g)
+    (λ c g. shift_sound b t (in_expression b fr none) de refl (λ g is. gripped (InExpression b.loc) fs e t g c is) g)
     (λ c g. by_bool (is_mark P.Colon t && (is_name e && nat_le primary i)) _ _ d (λ x q. as_label x q) (λ x q. as_statement c q) g) h
   where
+    alone : {v : Wanted} {n : Token} → SpellsSlots (Expr_ v ∷ []) (AnExpr i e ∷ []) l l ((b ∷ ts) ++ []) n → SpellsSlots (Expr_ v ∷ []) (AnExpr i e ∷ []) l l (b ∷ ts) n
+    alone {v = v} {n = n} dd = subst (λ x. SpellsSlots (Expr_ v ∷ []) (AnExpr i e ∷ []) l l x n) (append-nil (b ∷ ts)) dd
+
     label_made : {qs : List Piece} (p : Piece) → IsOf AsStmt p → (m : Loc) (vs : List Token) (next : Token) → fits (Level primary) i e ≡ true → t.kind ≡ T.Punctuator P.Colon → SpellsSlots (Stmt_ ∷ []) qs t.loc m vs next →
         build slot.Labelled (through b.loc m) (AnExpr i e ∷ qs) ≡ Some p → Spells p (through b.loc m) ((b ∷ (ts ++ t ∷ [])) ++ vs) next
     label_made (AStmt s) sort m vs next fit is dd made =
@@ -46,13 +53,25 @@ expression_sound {fs = fs} {u = u} {ts = ts} {l = l} {d = d} {i = i} {e = e} b t
         (Sentences.labelled b none (Sentences.expr fit de (ends_at_colon primary e t is) (Sentences.sign t is dd)) made)
     label_made p sort m vs next fit is dd made = absurd sort
 
+    label_begun : (h : ℕ) (vs : List Token) (next : Token) → fits (Level primary) i e ≡ true → t.kind ≡ T.Punctuator P.Colon → OpensSlots (place fs) (Stmt_ ∷ []) h vs → Begun AsStmt fs (max (heights (AnExpr i e ∷ [])) h + 1) ((b ∷ (ts ++ t ∷ [])) ++ vs)
+    label_begun h vs next fit is dd =
+        of_height AsStmt fs
+        (in_labelled b none (past next refl (alone (Sentences.expr fit de (ends_at_colon primary e t is) Sentences.done)) (past next refl (Sentences.sign {l = l} t is Sentences.done) (subst (λ v. OpensSlots v (Stmt_ ∷ []) h vs) (any_place fr) dd)))) (omega arith)
+        (ap (λ z. b ∷ z) (sym (append_assoc ts (t ∷ []) vs)))
+
+    statement_begun : (h : ℕ) (vs : List Token) (next : Token) → continues (Level any) e t ≡ false → first vs next ≡ t → OpensSlots (place fs) (By slot.Semicolon ∷ []) h vs → Begun AsStmt fs (max (heights (AnExpr i e ∷ [])) h + 1) ((b ∷ ts) ++ vs)
+    statement_begun h vs next c is dd =
+        Open.in_expression b none (past next refl (alone (Sentences.expr (le-leb any i (some_level de)) (subst (λ x. Spells (AnExpr i e) l (b ∷ ts) x) (sym is) de) (subst (λ x. continues (Level any) e x ≡ false) (sym is) c) Sentences.done))
+        (subst (λ v. OpensSlots v (By slot.Semicolon ∷ []) h vs) (any_place fr) dd))
+
     as_label : (is_mark P.Colon t && (is_name e && nat_le primary i)) ≡ true → enter slot.Labelled b.loc (Stmt_ ∷ []) (AnExpr i e ∷ []) t.loc fs ≡ Some d → Reads d ((u ++ b ∷ ts) ++ t ∷ [])
     as_label x q =
         let r : Due slot.Labelled b.loc (Stmt_ ∷ []) (AnExpr i e ∷ []) t.loc fs ≡ d = cc in
         let both = and_parts _ _ x in
         let fit = (and_parts _ _ both.1).1 in
-        let tail : Tail AsStmt Any slot.Labelled b.loc (Stmt_ ∷ []) (AnExpr i e ∷ []) t.loc (b ∷ (ts ++ t ∷ [])) = record {
+        let tail : Tail AsStmt fs Any slot.Labelled b.loc (Stmt_ ∷ []) (AnExpr i e ∷ []) t.loc (b ∷ (ts ++ t ∷ [])) = record {
           spells = λ {qs} {m} {ts = vs} {next} {p} sort _ dd made. label_made p sort m vs next fit (kind_is (T.Punctuator P.Colon) t.kind both.0) dd made;
+          begins = λ {n = h} {ts = vs} next _ dd. label_begun h vs next fit (kind_is (T.Punctuator P.Colon) t.kind both.0) dd;
         } in
         subst (λ y. Reads y ((u ++ b ∷ ts) ++ t ∷ [])) r (subst (λ y. Reads (Due slot.Labelled b.loc (Stmt_ ∷ []) (AnExpr i e ∷ []) t.loc fs) y) (sym (append_assoc u (b ∷ ts) (t ∷ []))) (due (opened b fr refl tail)))
 
@@ -64,8 +83,9 @@ expression_sound {fs = fs} {u = u} {ts = ts} {l = l} {d = d} {i = i} {e = e} b t
 
     as_statement : continues (Level any) e t ≡ false → pass slot.Expression b.loc (By slot.Semicolon ∷ []) (AnExpr i e ∷ []) l fs t (λ p m. have fs p m t) ≡ Some d → Reads d ((u ++ b ∷ ts) ++ t ∷ [])
     as_statement c q =
-        let tail : Tail AsStmt (Only t) slot.Expression b.loc (By slot.Semicolon ∷ []) (AnExpr i e ∷ []) l (b ∷ ts) = record {
+        let tail : Tail AsStmt fs (Only t) slot.Expression b.loc (By slot.Semicolon ∷ []) (AnExpr i e ∷ []) l (b ∷ ts) = record {
           spells = λ {qs} {m} {ts = vs} {next} {p} sort is dd made. statement_made p sort m vs next c is dd made;
+          begins = λ {n = h} {ts = vs} next is dd. statement_begun h vs next c is dd;
         } in
         pass_sound slot.Expression b.loc (By slot.Semicolon ∷ []) (AnExpr i e ∷ []) l fs u ts b t d (λ p m. have fs p m t) fr refl tail
         (λ o m so sp r. have_option fs u b o m t d fr so (λ p x is y. rec _ u b ts p m fr is (sp p x is) y) r) q
@@ -73,17 +93,17 @@ expression_sound {fs = fs} {u = u} {ts = ts} {l = l} {d = d} {i = i} {e = e} b t
 -- an expression that is an item
 items_sound : {f : Form} {w : Loc} {ss : List Slot} {ps : List Piece} {fs : List Frame} {u ts : List Token} {l : Loc} {d : Config} {i : ℕ} {e : Expr} (b t : Token) {p : Punctuator} {acc : Exprs} →
     Frames AsExpr (InItems f w p ss ps acc ∷ fs) u (Only b) → Spells (AnExpr i e) l (b ∷ ts) t → have (InItems f w p ss ps acc ∷ fs) (Some (AnExpr i e)) l t ≡ Some d → Reads d ((u ++ b ∷ ts) ++ t ∷ [])
-items_sound {f = f} {w = w} {ss = ss} {ps = ps} {fs = fs} {ts = ts} {d = d} {i = i} {e = e} b t {p = p} {acc = acc} (in_items {u = u} vs a o items firsts) de h =
+items_sound {f = f} {w = w} {ss = ss} {ps = ps} {fs = fs} {ts = ts} {d = d} {i = i} {e = e} b t {p = p} {acc = acc} (in_items {u = u} vs a o items opens firsts) de h =
     by_bool (continues (Level assignment) e t) _ _ d
-    (λ c g. shift_sound b t (in_items vs a o items firsts) de g)
-    (λ c g. by_bool (nat_le assignment i) _ _ d (λ x q. item_sound acc vs a b t o items (firsts b refl) de c (leb-true assignment i x) q) (λ x q. absurd cc) g) h
+    (λ c g. shift_sound b t (in_items vs a o items opens firsts) de refl (λ g is. gripped (InItems f w p ss ps acc) fs e t g c is) g)
+    (λ c g. by_bool (nat_le assignment i) _ _ d (λ x q. item_sound acc vs a b t o items opens (firsts b refl) de c (leb-true assignment i x) q) (λ x q. absurd cc) g) h
 
 -- a part that stands in frames
 have_sound : (fs : List Frame) (t : Token) (d : Config) → Sound fs t d
 have_sound [] t d k u b ts p l fr is sp h = absurd cc
 have_sound (f ∷ fs) t d k u b ts (AnExpr i e) l (in_expr o) is sp h = expr_sound b t o sp (have_sound fs t d) h
 have_sound (f ∷ fs) t d k u _ ts (AnExpr i e) l (in_expression b fr none) is sp h = expression_sound b t fr none sp (have_sound fs t d) h
-have_sound (f ∷ fs) t d k u b ts (AnExpr i e) l (in_items vs a o items firsts) is sp h = items_sound b t (in_items vs a o items firsts) sp h
+have_sound (f ∷ fs) t d k u b ts (AnExpr i e) l (in_items vs a o items opens firsts) is sp h = items_sound b t (in_items vs a o items opens firsts) sp h
 have_sound (f ∷ fs) t d AsStmt u b ts (AStmt s) l fr is sp h = stmt_sound b t fr sp (have_sound fs t d) h
 have_sound (f ∷ fs) t d AsStmt u b ts (AnExpr i e) l fr is sp h = absurd is
 have_sound (f ∷ fs) t d AsExpr u b ts (AStmt s) l fr is sp h = absurd is
@@ -98,12 +118,12 @@ narrow_open t (opened b fr kd tail) = opened b fr kd (narrowed tail)
 -- the next item of a list, or its end
 next_item : {f : Form} {w : Loc} {ss : List Slot} {ps : List Piece} {fs : List Frame} {u : List Token} {d : Config} {p : Punctuator} {acc : Exprs} (t : Token) →
     Frames AsExpr (InItems f w p ss ps acc ∷ fs) u Any → item (InItems f w p ss ps acc ∷ fs) t ≡ Some d → Reads d (u ++ t ∷ [])
-next_item {f = f} {w = w} {ss = ss} {ps = ps} {fs = fs} {d = d} {p = p} {acc = acc} t (in_items {u = u} vs a o items firsts) h =
+next_item {f = f} {w = w} {ss = ss} {ps = ps} {fs = fs} {d = d} {p = p} {acc = acc} t (in_items {u = u} vs a o items opens firsts) h =
     by_bool (is_mark p t) _ _ d
     (λ c q. let r : Due f w ss (ps ++ TheExprs true acc ∷ []) t.loc fs ≡ d = cc in
     subst (λ y. Reads y ((u ++ vs) ++ t ∷ [])) r (subst (λ y. Reads (Due f w ss (ps ++ TheExprs true acc ∷ []) t.loc fs) y) (sym (append_assoc u vs (t ∷ [])))
     (due (grow (vs ++ t ∷ []) o (λ k us tail. after_items {vs = vs} t (ended items) (kind_is (T.Punctuator p) t.kind c) (firsts t tt) tail)))))
-    (λ c q. want_sound t (in_items vs a o items (λ n z. firsts n tt)) q) h
+    (λ c q. want_sound t (in_items vs a o items opens (λ n z. firsts n tt)) q) h
   where
     ended : ((x : Bool) (xs : Exprs) (us : List Token) (n : Token) → SpellsItems x xs us n → SpellsItems x (append_exprs acc xs) (vs ++ us) n) → SpellsItems true acc vs t
     ended items = subst (λ y. SpellsItems true y vs t) (exprs_end acc) (subst (λ y. SpellsItems true (append_exprs acc no_expr) y t) (append-nil vs) (items true no_expr [] t Sentences.no_item))
@@ -121,7 +141,7 @@ file_sound {d = d} t h =
 
 pub turn_sound : {c d : Config} {u : List Token} (t : Token) → Reads c u → turn c t ≡ Some d → Reads d (u ++ t ∷ [])
 turn_sound t (due o) h = due_sound t o h
-turn_sound {d = d} t (having {k = k} {p = p} {l = l} {fs = fs} {u = u} {ts = ts} b fr is sp) h = have_sound fs t d k u b ts p l fr is (sp t) h
+turn_sound {d = d} t (having {k = k} {p = p} {l = l} {fs = fs} {u = u} {ts = ts} b fr is sp begun) h = have_sound fs t d k u b ts p l fr is (sp t) h
 turn_sound t (item_next fr) h = next_item t fr h
 turn_sound t not_begun h = file_sound t h
 turn_sound t (at_end s) h = absurd cc

@@ -20,7 +20,7 @@ use Rattle.js_reading.specs.Productions.{primary, bound_name, mark, is_mark, slo
 use Rattle.js_reading.specs.Choices.{branch}
 use Rattle.js_reading.specs.Makes.{build, is_target, is_and_or, bare_in, last_level, arrow_of, params_of, concise, expression_of, object_of, properties_of, length_of, template_of, template_parts, function_of}
 use Rattle.js_reading.specs.Sentences
-use Rattle.js_reading.specs.Sentences.{leaf_of, of_word, named, Spells, SpellsSlots}
+use Rattle.js_reading.specs.Sentences.{body_and_flags, regular_expression, leaf_of, of_word, named, Spells, SpellsSlots}
 use Rattle.js_reading.proofs.Shapes.{begins_sign, find_all, join_found, begins_join}
 use Rattle.js_reading.proofs.Makings.{is_first, is_join, High, high_made, member_is}
 
@@ -42,6 +42,10 @@ leaf_named : (l : Loc) (o : Option (List ℕ)) → Leaf (named l o)
 leaf_named l None = tt
 leaf_named l (Some w) = (refl, refl)
 
+leaf_pattern : (l : Loc) (o : Option (List ℕ × List ℕ)) → Leaf (regular_expression l o)
+leaf_pattern l None = tt
+leaf_pattern l (Some found) = (refl, refl)
+
 leaf_either : (b : Bool) (x y : Option Expr) → Leaf x → Leaf y → Leaf (if b then x else y)
 leaf_either true x y h k = h
 leaf_either false x y h k = k
@@ -57,7 +61,7 @@ leaf_made (T.EscapedWord w) l = leaf_named l (bound_name (T.EscapedWord w))
 leaf_made (T.Numeral w) l = (refl, refl)
 leaf_made (T.StringLiteral w) l = (refl, refl)
 leaf_made (T.NoSubstitutionTemplate w) l = (refl, refl)
-leaf_made (T.RegularExpression w) l = (refl, refl)
+leaf_made (T.RegularExpression w) l = leaf_pattern l (body_and_flags w)
 leaf_made k l = tt
 
 pub is_first_form : (t : Token) (f : Form) → prefix t ≡ Some f → (is_first f || is_join f) ≡ true

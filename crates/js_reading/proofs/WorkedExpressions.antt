@@ -200,7 +200,7 @@ unfolding is_keyword reserved_word chars reads tokens token
 tight-read-14 = refl
 
 -- `REGEX.a;`
-tight-read-15 : reads ((false, RegularExpression []) ∷ (false, T.Punctuator P.Dot) ∷ (false, Word (codes "a")) ∷ (false, T.Punctuator P.Semicolon) ∷ []) ≡ true
+tight-read-15 : reads ((false, RegularExpression (codes "/r/")) ∷ (false, T.Punctuator P.Dot) ∷ (false, Word (codes "a")) ∷ (false, T.Punctuator P.Semicolon) ∷ []) ≡ true
 unfolding is_keyword reserved_word chars reads tokens token
 tight-read-15 = refl
 

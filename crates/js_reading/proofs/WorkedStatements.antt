@@ -379,17 +379,17 @@ unfolding is_keyword reserved_word chars reads tokens token
 inserted-read-12 = refl
 
 -- `x => { } <LF> REGEX`
-inserted-read-13 : reads ((false, Word (codes "x")) ∷ (false, T.Punctuator P.Arrow) ∷ (false, T.Punctuator P.OpenBrace) ∷ (false, T.Punctuator P.CloseBrace) ∷ (true, RegularExpression []) ∷ []) ≡ true
+inserted-read-13 : reads ((false, Word (codes "x")) ∷ (false, T.Punctuator P.Arrow) ∷ (false, T.Punctuator P.OpenBrace) ∷ (false, T.Punctuator P.CloseBrace) ∷ (true, RegularExpression (codes "/r/")) ∷ []) ≡ true
 unfolding is_keyword reserved_word chars reads tokens token
 inserted-read-13 = refl
 
 -- `break <LF> REGEX.a`
-inserted-read-14 : reads ((false, Word (codes "break")) ∷ (true, RegularExpression []) ∷ (false, T.Punctuator P.Dot) ∷ (false, Word (codes "a")) ∷ []) ≡ true
+inserted-read-14 : reads ((false, Word (codes "break")) ∷ (true, RegularExpression (codes "/r/")) ∷ (false, T.Punctuator P.Dot) ∷ (false, Word (codes "a")) ∷ []) ≡ true
 unfolding is_keyword reserved_word chars reads tokens token
 inserted-read-14 = refl
 
 -- `{ }REGEX`
-inserted-read-15 : reads ((false, T.Punctuator P.OpenBrace) ∷ (false, T.Punctuator P.CloseBrace) ∷ (false, RegularExpression []) ∷ []) ≡ true
+inserted-read-15 : reads ((false, T.Punctuator P.OpenBrace) ∷ (false, T.Punctuator P.CloseBrace) ∷ (false, RegularExpression (codes "/r/")) ∷ []) ≡ true
 unfolding is_keyword reserved_word chars reads tokens token
 inserted-read-15 = refl
 
@@ -444,12 +444,12 @@ unfolding is_keyword reserved_word chars reads tokens token
 inserted-refused-9 = refl
 
 -- `a <LF> REGEX`
-inserted-refused-10 : reads ((false, Word (codes "a")) ∷ (true, RegularExpression []) ∷ []) ≡ false
+inserted-refused-10 : reads ((false, Word (codes "a")) ∷ (true, RegularExpression (codes "/r/")) ∷ []) ≡ false
 unfolding is_keyword reserved_word chars reads tokens token
 inserted-refused-10 = refl
 
 -- `a++ <LF> REGEX`
-inserted-refused-11 : reads ((false, Word (codes "a")) ∷ (false, T.Punctuator P.Increment) ∷ (true, RegularExpression []) ∷ []) ≡ false
+inserted-refused-11 : reads ((false, Word (codes "a")) ∷ (false, T.Punctuator P.Increment) ∷ (true, RegularExpression (codes "/r/")) ∷ []) ≡ false
 unfolding is_keyword reserved_word chars reads tokens token
 inserted-refused-11 = refl
 
@@ -459,7 +459,7 @@ unfolding is_keyword reserved_word chars reads tokens token
 inserted-refused-12 = refl
 
 -- `a = b => c <LF> REGEX`
-inserted-refused-13 : reads ((false, Word (codes "a")) ∷ (false, T.Punctuator P.Assign) ∷ (false, Word (codes "b")) ∷ (false, T.Punctuator P.Arrow) ∷ (false, Word (codes "c")) ∷ (true, RegularExpression []) ∷ []) ≡ false
+inserted-refused-13 : reads ((false, Word (codes "a")) ∷ (false, T.Punctuator P.Assign) ∷ (false, Word (codes "b")) ∷ (false, T.Punctuator P.Arrow) ∷ (false, Word (codes "c")) ∷ (true, RegularExpression (codes "/r/")) ∷ []) ≡ false
 unfolding is_keyword reserved_word chars reads tokens token
 inserted-refused-13 = refl
 

@@ -1,5 +1,5 @@
 -- Which tokens spell which tree, for the whole language. What is particular to a production stands in its row.
-use Rattle.std.specs.Prelude.{◌≡◌, ℕ, ◌≤◌, Bool, true, false, not, ◌&&◌, ◌||◌, List, [], ◌∷◌, ◌++◌, Option, Some, None, codes, if◌then◌else◌, nat_le, ◌==◌, ◌-◌, ◌+◌, length, take, drop}
+use Rattle.std.specs.Prelude.{◌≡◌, ℕ, ◌≤◌, Bool, true, false, not, ◌&&◌, ◌||◌, List, [], ◌∷◌, ◌++◌, Option, Some, None, codes, if◌then◌else◌, nat_le, ◌==◌}
 use Rattle.std.specs.Str.{bytes_eq}
 use Rattle.js_tree.specs.declared.place.Loc.{Loc}
 use Rattle.js_tree.specs.Plain.{Expr, Exprs, no_expr, more_expr, Stmt, Stmts, no_stmt, more_stmt, File, MakeFile}
@@ -20,16 +20,19 @@ use Rattle.js_reading.specs.Makes.{build, is_declaration, bare_in, last_level, w
 
 -- ---- an expression that is one token (13.1, 13.2)
 
--- the flags of a regular expression are what stands after its last `/`
-abbrev pub flags_of : List ℕ → List ℕ → List ℕ
-flags_of found [] = found
-flags_of found (c ∷ cs) = flags_of (if c == 0x2F then cs else found) cs
+-- what stands before the last `/`, and after it
+abbrev pub around_last_slash : List ℕ → Option (List ℕ × List ℕ)
+around_last_slash [] = None
+around_last_slash (c ∷ cs) = elim (around_last_slash cs) [ Some found ↦ Some (c ∷ found.0, found.1) | None ↦ if c == 0x2F then Some ([], cs) else None ]
 
--- its body and its flags: from after its first `/`, up to before its last
-abbrev pub regular_expression : Loc → List ℕ → Expr
-regular_expression l w =
-    let flags = flags_of [] w in
-    tree.RegularExpressionLiteral (Some l) (drop 1 (take (length w - (length flags + 1)) w)) flags
+-- the body of a regular expression and its flags stand before and after the last `/` of what follows its first
+abbrev pub body_and_flags : List ℕ → Option (List ℕ × List ℕ)
+body_and_flags [] = None
+body_and_flags (c ∷ cs) = if c == 0x2F then around_last_slash cs else None
+
+abbrev pub regular_expression : Loc → Option (List ℕ × List ℕ) → Option Expr
+regular_expression l None = None
+regular_expression l (Some found) = Some (tree.RegularExpressionLiteral (Some l) found.0 found.1)
 
 abbrev pub named : Loc → Option (List ℕ) → Option Expr
 named l None = None
@@ -49,7 +52,7 @@ leaf_of (EscapedWord w) l = named l (bound_name (EscapedWord w))
 leaf_of (Numeral w) l = Some (tree.NumericLiteral (Some l) w)
 leaf_of (StringLiteral w) l = Some (tree.StringLiteral (Some l) (string_of w))
 leaf_of (NoSubstitutionTemplate w) l = Some (tree.TemplateLiteral (Some l) (text_of w) tree.no_template_part)
-leaf_of (RegularExpression w) l = Some (regular_expression l w)
+leaf_of (RegularExpression w) l = regular_expression l (body_and_flags w)
 leaf_of k l = None
 
 -- ---- where an expression ends

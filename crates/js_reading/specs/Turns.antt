@@ -1,8 +1,11 @@
 -- The reader of the whole language as a machine: one turn for each token, one frame for all productions.
-use Rattle.std.specs.Prelude.{ℕ, Bool, true, false, ◌&&◌, ◌||◌, List, [], ◌∷◌, ◌++◌, Option, Some, None, if◌then◌else◌, nat_le}
+use Rattle.std.specs.Prelude.{ℕ, Bool, true, false, not, ◌&&◌, ◌||◌, List, [], ◌∷◌, ◌++◌, Option, Some, None, if◌then◌else◌, nat_le}
 use Rattle.js_tree.specs.declared.place.Loc.{Loc}
+use Rattle.js_tree.specs.declared.operators.VariableKind.{VariableKind}
+use Rattle.js_tree.specs.declared.operators.VariableKind.TheVariants as variable
 use Rattle.js_tree.specs.Plain.{Expr, Exprs, no_expr, push_exprs, Stmt, Stmts, no_stmt, push_stmts, File, MakeFile}
-use Rattle.js_text.specs.Token.{Token, End}
+use Rattle.js_text.specs.Token.{Token, Kind, End}
+use Rattle.js_text.specs.Token as T
 use Rattle.js_text.specs.declared.punctuator.Punctuator.{Punctuator}
 use Rattle.js_text.specs.declared.punctuator.Punctuator.TheVariants as P
 use Rattle.js_text.specs.Level.{any, assignment}
@@ -13,10 +16,10 @@ use Rattle.js_reading.specs.Kinds.{is_kind}
 use Rattle.js_reading.specs.Outside.{this_stmts}
 use Rattle.js_reading.specs.Slots.{Wanted, Level, WithoutIn, Callee, Slot, Sign, Text, Expr_, Stmt_, Stmts_, Items_, Place_, By, Piece, AnExpr, AStmt, TheStmts, TheExprs, APlace, Branch, Refuse, Pass, Go, Form, Class, Choice, LaterText}
 use Rattle.js_reading.specs.Slots as slot
-use Rattle.js_reading.specs.Productions.{primary, is_mark, piece_of, slots, prefix, statement, join, strength, wants, after_first}
+use Rattle.js_reading.specs.Productions.{primary, member, is_mark, piece_of, slots, prefix, statement, join, strength, wants, after_first}
 use Rattle.js_reading.specs.Choices.{branch}
 use Rattle.js_reading.specs.Makes.{build, is_declaration, with_directives}
-use Rattle.js_reading.specs.Sentences.{leaf_of, fits, bans, continues, closes}
+use Rattle.js_reading.specs.Sentences.{leaf_of, least, fits, bans, continues, closes}
 
 -- a node with a part missing, innermost first on the stack
 pub data Frame : Type 0 where
@@ -40,6 +43,46 @@ pub data Config : Type 0 where
   Start : Config
   Finished : Stmts → Config
 
+-- ---- where an expression stands
+
+-- the place of a part, before those after it, in a production that stands in a place: in its last part `in` is banned as there
+abbrev pub inner : Wanted → List Slot → Wanted → Wanted
+inner (Level m) [] (WithoutIn n) = WithoutIn m
+inner w ss v = w
+
+-- the place of an expression on top of the stack
+abbrev pub place : List Frame → Wanted
+place (InForm f w (Expr_ n) ss ps ∷ fs) = inner n ss (place fs)
+place (InItems f w p ss ps xs ∷ fs) = Level assignment
+place fs = Level any
+
+-- the highest level that a production makes that a token begins: parentheses may turn out to be an arrow's parameters
+abbrev pub begun_level : Form → ℕ
+begun_level slot.Parentheses = member
+begun_level slot.New = member
+begun_level (slot.PrefixUpdate o) = 17
+begun_level (slot.Unary o) = 16
+begun_level f = primary
+
+-- an arrow's body stands only where an arrow may
+abbrev pub leads : Wanted → Choice → Bool
+leads v slot.Arrow = nat_le (least v) assignment
+leads v c = true
+
+-- a declaration stands in a list of statements only (14)
+abbrev pub declares : Form → Bool
+declares slot.FunctionDeclaration = true
+declares (slot.Variables k) = is_lexical k
+  where
+    is_lexical : VariableKind → Bool
+    is_lexical variable.Var = false
+    is_lexical k = true
+declares f = false
+
+abbrev pub listing : List Frame → Bool
+listing (InForm f w s ss ps ∷ fs) = false
+listing fs = true
+
 -- ---- a part begins
 
 abbrev pub enter : Form → Loc → List Slot → List Piece → Loc → List Frame → Option Config
@@ -62,14 +105,14 @@ begin_leaf t fs (Some e) = Some (Have (AnExpr primary e) t.loc fs)
 
 abbrev pub want_by : Option Form → Token → List Frame → Option Config
 want_by None t fs = begin_leaf t fs (leaf_of t.kind t.loc)
-want_by (Some f) t fs = begin_form f t (slots f) fs
+want_by (Some f) t fs = if nat_le (least (place fs)) (begun_level f) then begin_form f t (slots f) fs else None
 
 abbrev pub want : Token → List Frame → Option Config
 want t fs = want_by (prefix t) t fs
 
 abbrev pub begin_by : Option Form → Token → List Frame → Option Config
 begin_by None t fs = want t (InExpression t.loc ∷ fs)
-begin_by (Some f) t fs = begin_form f t (slots f) fs
+begin_by (Some f) t fs = if declares f && not (listing fs) then None else begin_form f t (slots f) fs
 
 abbrev pub begin : Token → List Frame → Option Config
 begin t fs = begin_by (statement t) t fs
@@ -95,12 +138,12 @@ abbrev pub pass : Form → Loc → List Slot → List Piece → Loc → List Fra
 pass f w [] ps l fs t go = go (build f (through w l) ps) (through w l)
 pass f w (Place_ ∷ ss) ps l fs t go = pass f w ss (ps ++ APlace l ∷ []) l fs t go
 pass f w (Stmts_ ∷ ss) ps l fs t go = if closes t then pass f w ss (ps ++ TheStmts no_stmt ∷ []) l fs t go else begin t (InStmts f w ss ps no_stmt ∷ fs)
-pass f w (By c ∷ ss) ps l fs t go = choose (branch c t) (λ qs. pass f w ss (ps ++ qs) l fs t go) (λ qs s rs. take f w s (rs ++ ss) (ps ++ qs) fs t)
+pass f w (By c ∷ ss) ps l fs t go = choose (branch c t) (λ qs. pass f w ss (ps ++ qs) l fs t go) (λ qs s rs. if leads (place fs) c then take f w s (rs ++ ss) (ps ++ qs) fs t else None)
 pass f w (s ∷ ss) ps l fs t go = take f w s ss ps fs t
 
 -- ---- a part stands there
 
--- the place of an expression on top of the stack
+-- what the top of the stack asks of its expression
 abbrev pub wanted : Frame → Wanted
 wanted (InForm f w (Expr_ n) ss ps) = n
 wanted (InItems f w p ss ps xs) = Level assignment
@@ -108,20 +151,17 @@ wanted f = Level any
 
 -- `in` is banned where the innermost open end is a first part of `for`
 abbrev pub banned : Token → List Frame → Bool
-banned t [] = false
-banned t (InForm f w (Expr_ (WithoutIn n)) ss ps ∷ fs) = bans (WithoutIn n) t
-banned t (InForm f w (Expr_ n) [] ps ∷ fs) = banned t fs
-banned t (f ∷ fs) = false
+banned t fs = bans (place fs) t
 
 -- the token after the expression that a production begins with: it is told by it
 abbrev pub take_second : Form → ℕ → Expr → Loc → List Frame → Token → List Slot → Option Config
 take_second f i e l fs t (Sign k ∷ ss) = enter f l ss (AnExpr i e ∷ []) t.loc fs
 take_second f i e l fs t ss = None
 
--- a production that begins with this expression
+-- a production that begins with this expression, which stands in the place of that production
 abbrev pub shift : Option Form → ℕ → Expr → Loc → List Frame → Token → Option Config
 shift None i e l fs t = None
-shift (Some f) i e l fs t = if nat_le (wants (Some f)) i then take_second f i e l fs t (after_first (slots f)) else None
+shift (Some f) i e l fs t = if nat_le (wants (Some f)) i && fits (place fs) i e then take_second f i e l fs t (after_first (slots f)) else None
 
 abbrev pub is_name : Expr → Bool
 is_name (Rattle.js_tree.specs.Plain.IdentifierReference l w) = true
@@ -188,7 +228,38 @@ abbrev pub tree_of : Option Config → Option File
 tree_of (Some (Finished ss)) = Some (MakeFile (with_directives ss) [])
 tree_of c = None
 
--- ---- the goal of the next token (12.1): by the place alone
+-- ---- the goal of the next token (12): by the place, and where an expression of a template ends by whether the token begins with `}`
+
+-- what the goals differ in: `/` and `/=` (DivPunctuator), a regular expression, and what continues a template (TemplateSubstitutionTail)
+abbrev pub divides : Kind → Bool
+divides (T.Punctuator P.Slash) = true
+divides (T.Punctuator P.DivideAssign) = true
+divides k = false
+
+abbrev pub is_regular : Kind → Bool
+is_regular (T.RegularExpression w) = true
+is_regular k = false
+
+abbrev pub is_later : Kind → Bool
+is_later (T.TemplateMiddle w) = true
+is_later (T.TemplateTail w) = true
+is_later k = false
+
+-- a token of this kind is one for this goal
+abbrev pub is_for : Goal → Kind → Bool
+is_for goal.Div k = not (is_regular k || is_later k)
+is_for goal.RegExp k = not (divides k || is_later k)
+is_for goal.Template k = is_later k
+
+-- it begins with `}`
+abbrev pub braced : Kind → Bool
+braced (T.Punctuator P.CloseBrace) = true
+braced k = is_later k
+
+-- where an expression of a template ends (InputElementTemplateTail) a `}` continues the template, and all else is as for Div
+abbrev pub asked : Goal → Bool → Goal
+asked goal.Template false = goal.Div
+asked g b = g
 
 abbrev pub in_template : List Slot → Bool
 in_template (By slot.TemplateRest ∷ ss) = true

@@ -1,17 +1,19 @@
 -- The forms of the standard that the language leaves out, and what begins each: a token at a place, and those after it.
-use Rattle.std.specs.Prelude.{◌≡◌, ℕ, ◌≤◌, Bool, true, false, ◌&&◌, ◌||◌, List, [], ◌∷◌, ◌++◌, Option, Some, codes}
+use Rattle.std.specs.Prelude.{◌≡◌, ℕ, Bool, true, false, ◌&&◌, ◌||◌, List, [], ◌∷◌, ◌++◌, Option, Some, codes}
 use Rattle.js_tree.specs.declared.place.Loc.{Loc}
 use Rattle.js_tree.specs.Plain.{Expr, Exprs}
 use Rattle.js_tree.specs.Plain as tree
+use Rattle.js_tree.specs.declared.operators.UpdateOperator.{UpdateOperator}
+use Rattle.js_text.specs.Level.{any}
 use Rattle.js_text.specs.Token.{Token, Kind, BigInt}
 use Rattle.js_text.specs.Token as T
 use Rattle.js_text.specs.declared.punctuator.Punctuator.TheVariants as P
-use Rattle.js_reading.specs.Slots.{Class, BoundName, AnyName, Key, Slot, Text, Expr_, Items_, By, Piece, AnExpr, Form}
+use Rattle.js_reading.specs.Slots.{Wanted, WithoutIn, Class, BoundName, AnyName, Key, Slot, Text, Expr_, Items_, By, Piece, AnExpr, Form}
 use Rattle.js_reading.specs.Slots as slot
-use Rattle.js_reading.specs.Productions.{is_mark, is_word, is_class, is_proto_word, call, join}
+use Rattle.js_reading.specs.Productions.{is_mark, is_word, is_class, is_proto_word, join}
 use Rattle.js_reading.specs.Makes.{is_target}
-use Rattle.js_reading.specs.Sentences.{Spells, SpellsItems}
-use Rattle.js_reading.specs.Turns.{Config, Due, Have, Item, Frame, InForm, InStmts, InItems}
+use Rattle.js_reading.specs.Sentences.{fits, continues, Spells, SpellsItems}
+use Rattle.js_reading.specs.Turns.{want, wanted, turn, Config, Due, Have, Item, Frame, InForm, InStmts, InItems}
 
 pub data Unsupported : Type 0 where
   ClassForm : Unsupported
@@ -56,10 +58,32 @@ at_item (Due slot.ArrayLiteral w (Items_ p ∷ ss) ps l fs) = true
 at_item (Item (InItems slot.ArrayLiteral w p ss ps xs ∷ fs)) = true
 at_item c = false
 
--- what a template may not follow: a member, a call or a primary expression
-abbrev pub after_tight : Config → Type 0
-after_tight (Have (AnExpr i e) l fs) = call ≤ i
-after_tight c = ⊥
+-- what a template may not follow: a member, a call or a primary expression, whose last token was read
+abbrev pub is_operand : Form → Bool
+is_operand slot.ArrayLiteral = true
+is_operand slot.ObjectLiteral = true
+is_operand slot.Template = true
+is_operand slot.FunctionExpression = true
+is_operand slot.New = true
+is_operand slot.Call = true
+is_operand slot.Dot = true
+is_operand slot.Member = true
+is_operand f = false
+
+abbrev pub is_parentheses : Form → Bool
+is_parentheses slot.Parentheses = true
+is_parentheses f = false
+
+abbrev pub operand_over : Form → List Slot → Bool
+operand_over f [] = is_operand f
+operand_over f (slot.Place_ ∷ []) = is_operand f
+operand_over f (By slot.Arrow ∷ []) = is_parentheses f
+operand_over f ss = false
+
+abbrev pub after_tight : Config → Bool
+after_tight (Have (AnExpr i e) l fs) = true
+after_tight (Due f w ss ps l fs) = operand_over f ss
+after_tight c = false
 
 -- in a function that is no arrow: in its body, or in a default
 abbrev pub in_parameters : List Slot → Bool
@@ -105,15 +129,6 @@ assigns (Some (slot.Assignment o)) = true
 assigns (Some (slot.Postfix o)) = true
 assigns f = false
 
--- what begins an update, and the head of a `for`
-abbrev pub target_due : Config → Bool
-target_due (Due (slot.PrefixUpdate o) w ss ps l fs) = true
-target_due c = false
-
-abbrev pub at_head : Config → Bool
-at_head (Due f w (By slot.Head ∷ ss) ps l fs) = true
-at_head c = false
-
 -- `in` or `of`
 abbrev pub is_each : Token → Bool
 is_each t = is_word (codes "in") t || is_word (codes "of") t
@@ -128,41 +143,58 @@ is_literal_pattern (tree.ArrayLiteral l xs) = true
 is_literal_pattern (tree.ObjectLiteral l ps) = true
 is_literal_pattern e = false
 
--- ---- the relation: at a place, these tokens begin with one that begins the form
+-- the first part of a `for` is due, and is an expression
+abbrev pub in_head : Loc → Loc → List Frame → Config
+in_head w l fs = Due slot.For w (By slot.Head ∷ []) [] l fs
 
+abbrev pub of_head : Loc → List Frame → List Frame
+of_head w fs = InForm slot.For w (Expr_ (WithoutIn any)) (By slot.AfterTarget ∷ []) [] ∷ fs
+
+-- ---- the relations: at a place, these tokens begin with those that begin the form
+
+-- no sentence goes on with what begins it. Where the machine does with a token what it does where an expression is wanted, one begins
+pub data Stops : Unsupported → Config → List Token → Type 0 where
+  class : {c : Config} {t : Token} {ts : List Token} → is_word (codes "class") t ≡ true → at_any_name c ≡ false → Stops ClassForm c (t ∷ ts)
+  super : {c : Config} {t : Token} {ts : List Token} → is_word (codes "super") t ≡ true → at_any_name c ≡ false → Stops Super c (t ∷ ts)
+  import_ : {c : Config} {t : Token} {ts : List Token} → is_word (codes "import") t ≡ true → at_any_name c ≡ false → Stops Import c (t ∷ ts)
+  export : {c : Config} {t : Token} {ts : List Token} → is_word (codes "export") t ≡ true → at_any_name c ≡ false → Stops Export c (t ∷ ts)
+  new_target : {c : Config} {t dot : Token} {ts : List Token} → is_word (codes "new") t ≡ true → at_any_name c ≡ false → is_mark P.Dot dot ≡ true → Stops NewTarget c (t ∷ dot ∷ ts)
+  spread : {c : Config} {t : Token} {ts : List Token} → is_mark P.Ellipsis t ≡ true → Stops Spread c (t ∷ ts)
+  optional_chain : {c : Config} {t : Token} {ts : List Token} → is_mark P.OptionalChain t ≡ true → Stops OptionalChain c (t ∷ ts)
+  logical_assignment : {c : Config} {t : Token} {ts : List Token} → (is_mark P.LogicalAndAssign t || is_mark P.LogicalOrAssign t || is_mark P.CoalesceAssign t) ≡ true → Stops LogicalAssignment c (t ∷ ts)
+  async_function : {c : Config} {t word : Token} {ts : List Token} → is_word (codes "async") t ≡ true → at_any_name c ≡ false → is_word (codes "function") word ≡ true → word.line_terminator_before ≡ false → Stops Async c (t ∷ word ∷ ts)
+  -- `of` may be that of a `for`
+  async_name : {c : Config} {t : Token} {ts : List Token} (name arrow : Token) → is_word (codes "async") t ≡ true → at_any_name c ≡ false → is_class BoundName name ≡ true → (is_word (codes "let") name || is_word (codes "of") name) ≡ false → name.line_terminator_before ≡ false →
+      is_mark P.Arrow arrow ≡ true → Stops Async c (t ∷ name ∷ arrow ∷ ts)
+  async_method : {c : Config} {t key : Token} {ts : List Token} → is_word (codes "async") t ≡ true → at_property c ≡ true → (is_class Key key || is_mark P.OpenBracket key) ≡ true → key.line_terminator_before ≡ false → Stops Async c (t ∷ key ∷ ts)
+  generator : {c : Config} {t star : Token} {ts : List Token} → is_word (codes "function") t ≡ true → at_any_name c ≡ false → is_mark P.Star star ≡ true → Stops Generator c (t ∷ star ∷ ts)
+  generator_method : {c : Config} {t : Token} {ts : List Token} → is_mark P.Star t ≡ true → at_property c ≡ true → Stops Generator c (t ∷ ts)
+  accessor : {c : Config} {t key : Token} {ts : List Token} → (is_word (codes "get") t || is_word (codes "set") t) ≡ true → at_property c ≡ true → (is_class Key key || is_mark P.OpenBracket key) ≡ true → Stops Accessor c (t ∷ key ∷ ts)
+  bigint : {c : Config} {t : Token} {ts : List Token} → is_bigint t.kind ≡ true → Stops BigIntLiteral c (t ∷ ts)
+  elision : {c : Config} {t : Token} {ts : List Token} → is_mark P.Comma t ≡ true → at_item c ≡ true → Stops Elision c (t ∷ ts)
+  proto : {t colon : Token} {w l : Loc} {ss : List Slot} {ps : List Piece} {fs : List Frame} {ts : List Token} → is_proto_word t.kind ≡ true → is_mark P.Colon colon ≡ true → Stops Proto (Due slot.ObjectLiteral w (By slot.Properties ∷ ss) ps l fs) (t ∷ colon ∷ ts)
+  tagged_template : {c : Config} {t : Token} {ts : List Token} → is_template t.kind ≡ true → after_tight c ≡ true → Stops TaggedTemplate c (t ∷ ts)
+  -- brackets where a name to bind is due, and a shorthand before `=`
+  binding : {c : Config} {t : Token} {ts : List Token} → (is_mark P.OpenBracket t || is_mark P.OpenBrace t) ≡ true → at_bound_name c ≡ true → Stops BindingPattern c (t ∷ ts)
+  shorthand : {c : Config} {t sign : Token} {ts : List Token} → is_class BoundName t ≡ true → at_property c ≡ true → is_mark P.Assign sign ≡ true → Stops BindingPattern c (t ∷ sign ∷ ts)
+  -- a target in parentheses: the whole left side of an assignment or an update, the operand of an update, and the target of a `for`
+  target_before : {c : Config} {i : ℕ} {e : Expr} {l : Loc} {t : Token} {te : List Token} (f : Frame) (fs : List Frame) (sign : Token) (ts : List Token) → turn c t ≡ want t (f ∷ fs) → fits (wanted f) i e ≡ true → Spells (AnExpr i e) l (t ∷ te) sign →
+      is_parenthesized_target e ≡ true → assigns (join sign) ≡ true → continues (wanted f) e sign ≡ true → Stops ParenthesizedTarget c (t ∷ (te ++ sign ∷ ts))
+  target_after : {i : ℕ} {e : Expr} {o : UpdateOperator} {w l m : Loc} {n : Wanted} {fs : List Frame} {t : Token} {te : List Token} (next : Token) (ts : List Token) → fits n i e ≡ true → Spells (AnExpr i e) m (t ∷ te) next →
+      is_parenthesized_target e ≡ true → continues n e next ≡ false → Stops ParenthesizedTarget (Due (slot.PrefixUpdate o) w (Expr_ n ∷ []) [] l fs) (t ∷ (te ++ next ∷ ts))
+  target_in_head : {i : ℕ} {e : Expr} {w l m : Loc} {fs : List Frame} {t : Token} {te : List Token} (word : Token) (ts : List Token) → turn (in_head w l fs) t ≡ want t (of_head w fs) → fits (WithoutIn any) i e ≡ true → Spells (AnExpr i e) m (t ∷ te) word →
+      is_parenthesized_target e ≡ true → is_each word ≡ true → Stops ParenthesizedTarget (in_head w l fs) (t ∷ (te ++ word ∷ ts))
+  -- a literal that is the whole left side of `=`, and one that is the target of a `for`
+  literal : {c : Config} {i : ℕ} {e : Expr} {l : Loc} {t : Token} {te : List Token} (f : Frame) (fs : List Frame) (sign : Token) (ts : List Token) → turn c t ≡ want t (f ∷ fs) → fits (wanted f) i e ≡ true → Spells (AnExpr i e) l (t ∷ te) sign →
+      is_literal_pattern e ≡ true → is_mark P.Assign sign ≡ true → continues (wanted f) e sign ≡ true → Stops BindingPattern c (t ∷ (te ++ sign ∷ ts))
+  literal_in_head : {i : ℕ} {e : Expr} {w l m : Loc} {fs : List Frame} {t : Token} {te : List Token} (word : Token) (ts : List Token) → turn (in_head w l fs) t ≡ want t (of_head w fs) → fits (WithoutIn any) i e ≡ true → Spells (AnExpr i e) m (t ∷ te) word →
+      is_literal_pattern e ≡ true → is_each word ≡ true → Stops BindingPattern (in_head w l fs) (t ∷ (te ++ word ∷ ts))
+
+-- all of them: those, and others of which that isn't proved
 pub data Begins : Unsupported → Config → List Token → Type 0 where
-  class : {c : Config} {t : Token} {ts : List Token} → is_word (codes "class") t ≡ true → at_any_name c ≡ false → Begins ClassForm c (t ∷ ts)
-  super : {c : Config} {t : Token} {ts : List Token} → is_word (codes "super") t ≡ true → at_any_name c ≡ false → Begins Super c (t ∷ ts)
-  import_ : {c : Config} {t : Token} {ts : List Token} → is_word (codes "import") t ≡ true → at_any_name c ≡ false → Begins Import c (t ∷ ts)
-  export : {c : Config} {t : Token} {ts : List Token} → is_word (codes "export") t ≡ true → at_any_name c ≡ false → Begins Export c (t ∷ ts)
-  new_target : {c : Config} {t dot : Token} {ts : List Token} → is_word (codes "new") t ≡ true → at_any_name c ≡ false → is_mark P.Dot dot ≡ true → Begins NewTarget c (t ∷ dot ∷ ts)
-  spread : {c : Config} {t : Token} {ts : List Token} → is_mark P.Ellipsis t ≡ true → Begins Spread c (t ∷ ts)
-  optional_chain : {c : Config} {t : Token} {ts : List Token} → is_mark P.OptionalChain t ≡ true → Begins OptionalChain c (t ∷ ts)
-  logical_assignment : {c : Config} {t : Token} {ts : List Token} → (is_mark P.LogicalAndAssign t || is_mark P.LogicalOrAssign t || is_mark P.CoalesceAssign t) ≡ true → Begins LogicalAssignment c (t ∷ ts)
-  async_function : {c : Config} {t word : Token} {ts : List Token} → is_word (codes "async") t ≡ true → at_any_name c ≡ false → is_word (codes "function") word ≡ true → word.line_terminator_before ≡ false → Begins Async c (t ∷ word ∷ ts)
-  async_name : {c : Config} {t : Token} {ts : List Token} (name arrow : Token) → is_word (codes "async") t ≡ true → at_any_name c ≡ false → is_class BoundName name ≡ true → name.line_terminator_before ≡ false → is_mark P.Arrow arrow ≡ true →
+  surely : {u : Unsupported} {c : Config} {ts : List Token} → Stops u c ts → Begins u c ts
+  async_of : {c : Config} {t : Token} {ts : List Token} (name arrow : Token) → is_word (codes "async") t ≡ true → at_any_name c ≡ false → (is_word (codes "let") name || is_word (codes "of") name) ≡ true → name.line_terminator_before ≡ false → is_mark P.Arrow arrow ≡ true →
       Begins Async c (t ∷ name ∷ arrow ∷ ts)
   async_arguments : {c : Config} {t : Token} {b : Bool} {xs : Exprs} {tx : List Token} (opening closing arrow : Token) (ts : List Token) → is_word (codes "async") t ≡ true → at_any_name c ≡ false → is_mark P.OpenParenthesis opening ≡ true →
       opening.line_terminator_before ≡ false → SpellsItems b xs tx closing → is_mark P.CloseParenthesis closing ≡ true → is_mark P.Arrow arrow ≡ true → Begins Async c (t ∷ opening ∷ (tx ++ closing ∷ arrow ∷ ts))
-  async_method : {c : Config} {t key : Token} {ts : List Token} → is_word (codes "async") t ≡ true → at_property c ≡ true → (is_class Key key || is_mark P.OpenBracket key) ≡ true → key.line_terminator_before ≡ false → Begins Async c (t ∷ key ∷ ts)
-  generator : {c : Config} {t star : Token} {ts : List Token} → is_word (codes "function") t ≡ true → at_any_name c ≡ false → is_mark P.Star star ≡ true → Begins Generator c (t ∷ star ∷ ts)
-  generator_method : {c : Config} {t : Token} {ts : List Token} → is_mark P.Star t ≡ true → at_property c ≡ true → Begins Generator c (t ∷ ts)
-  accessor : {c : Config} {t key : Token} {ts : List Token} → (is_word (codes "get") t || is_word (codes "set") t) ≡ true → at_property c ≡ true → (is_class Key key || is_mark P.OpenBracket key) ≡ true → Begins Accessor c (t ∷ key ∷ ts)
-  bigint : {c : Config} {t : Token} {ts : List Token} → is_bigint t.kind ≡ true → Begins BigIntLiteral c (t ∷ ts)
   this_outside : {c : Config} {t : Token} {ts : List Token} → is_word (codes "this") t ≡ true → at_any_name c ≡ false → in_function (frames_of c) ≡ false → Begins ThisOutside c (t ∷ ts)
-  elision : {c : Config} {t : Token} {ts : List Token} → is_mark P.Comma t ≡ true → at_item c ≡ true → Begins Elision c (t ∷ ts)
-  proto : {c : Config} {t colon : Token} {ts : List Token} → is_proto_word t.kind ≡ true → at_property c ≡ true → is_mark P.Colon colon ≡ true → Begins Proto c (t ∷ colon ∷ ts)
-  tagged_template : {c : Config} {t : Token} {ts : List Token} → is_template t.kind ≡ true → after_tight c → Begins TaggedTemplate c (t ∷ ts)
-  -- a target in parentheses before an assignment's or an update's sign, or after that of an update
-  target_before : {c : Config} {i : ℕ} {e : Expr} {l : Loc} {t : Token} {te : List Token} (sign : Token) (ts : List Token) → Spells (AnExpr i e) l (t ∷ te) sign → is_parenthesized_target e ≡ true → assigns (join sign) ≡ true →
-      Begins ParenthesizedTarget c (t ∷ (te ++ sign ∷ ts))
-  target_after : {c : Config} {i : ℕ} {e : Expr} {l : Loc} {t : Token} {te : List Token} (next : Token) (ts : List Token) → target_due c ≡ true → Spells (AnExpr i e) l (t ∷ te) next → is_parenthesized_target e ≡ true →
-      Begins ParenthesizedTarget c (t ∷ (te ++ next ∷ ts))
-  target_in_head : {c : Config} {i : ℕ} {e : Expr} {l : Loc} {t : Token} {te : List Token} (word : Token) (ts : List Token) → at_head c ≡ true → Spells (AnExpr i e) l (t ∷ te) word → is_parenthesized_target e ≡ true → is_each word ≡ true →
-      Begins ParenthesizedTarget c (t ∷ (te ++ word ∷ ts))
-  literal_in_head : {c : Config} {i : ℕ} {e : Expr} {l : Loc} {t : Token} {te : List Token} (word : Token) (ts : List Token) → at_head c ≡ true → Spells (AnExpr i e) l (t ∷ te) word → is_literal_pattern e ≡ true → is_each word ≡ true →
-      Begins BindingPattern c (t ∷ (te ++ word ∷ ts))
-  -- brackets where a name to bind is due, a literal before `=`, and a shorthand before `=`
-  binding : {c : Config} {t : Token} {ts : List Token} → (is_mark P.OpenBracket t || is_mark P.OpenBrace t) ≡ true → at_bound_name c ≡ true → Begins BindingPattern c (t ∷ ts)
-  literal : {c : Config} {i : ℕ} {e : Expr} {l : Loc} {t : Token} {te : List Token} (sign : Token) (ts : List Token) → Spells (AnExpr i e) l (t ∷ te) sign → is_literal_pattern e ≡ true → is_mark P.Assign sign ≡ true → Begins BindingPattern c (t ∷ (te ++ sign ∷ ts))
-  shorthand : {c : Config} {t sign : Token} {ts : List Token} → is_class BoundName t ≡ true → at_property c ≡ true → is_mark P.Assign sign ≡ true → Begins BindingPattern c (t ∷ sign ∷ ts)

@@ -1,15 +1,28 @@
-//! The grammar of the language as a table of slots: definitions and proofs, and no code. Each law on the definitions is a clause
-//! of a small function's contract.
+//! The grammar of the language as a table of slots: definitions and proofs, and no code but the names of productions and choices.
+//! Each law on the definitions is a clause of a small function's contract.
 #![tactic(auto)]
 
-ghost use Rattle.js_reading.specs.Laws.{ReadsEachSentence, ReadsNothingElse, HasOneTree, StopsAtDead, CountsTrees};
+ghost use Rattle.js_reading.specs.Laws.{ReadsEachSentence, ReadsNothingElse, HasOneTree, StopsAtDead, CountsTrees, BeginsLevels, AsksForEach, StopsAtLeftOut};
+
+mod choice;
+mod class;
+mod form;
+
+pub use choice::Choice;
+pub use class::Class;
+pub use form::Form;
 
 /// The machine reads each sentence as its tree and nothing else, a list of tokens has one tree at most, and where the machine
-/// stops no sentence begins so. What a place counts as levels is in each tree that it leads to.
+/// stops no sentence begins so. What a place counts as levels is in each tree that it leads to, and the tokens so far begin them.
+/// Each token that is read is one for the goal with which it is asked for. No sentence
+/// goes on with what begins a form that is left out, of those in `Stops`.
 pub fn language()
     ensures reads { ReadsEachSentence }
     ensures nothing_else { ReadsNothingElse }
     ensures one { HasOneTree }
     ensures stops { StopsAtDead }
     ensures counts { CountsTrees }
+    ensures begins { BeginsLevels }
+    ensures asks { AsksForEach }
+    ensures left_out { StopsAtLeftOut }
 {}

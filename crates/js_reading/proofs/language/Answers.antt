@@ -1,5 +1,8 @@
 use Rattle.js_reading.proofs.Floors.{low}
+use Rattle.js_reading.proofs.Goals.{asks}
+use Rattle.js_reading.proofs.Opening.{begins_more}
 use Rattle.js_reading.proofs.Reading.{complete}
+use Rattle.js_reading.proofs.Refusing.{stops_dead}
 use Rattle.js_reading.proofs.Sound.{reads_only}
 use Rattle.js_reading.proofs.Unique.{one_tree, dead}
 use Rattle.js_reading.proofs.language.Goals as goal
@@ -18,3 +21,12 @@ returns-clause-stops c = dead
 
 pub returns-clause-counts : goal.returns-clause-counts
 returns-clause-counts c = low
+
+pub returns-clause-begins : goal.returns-clause-begins
+returns-clause-begins c = begins_more
+
+pub returns-clause-asks : goal.returns-clause-asks
+returns-clause-asks c = asks
+
+pub returns-clause-left_out : goal.returns-clause-left_out
+returns-clause-left_out c = stops_dead

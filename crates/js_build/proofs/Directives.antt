@@ -1,0 +1,41 @@
+-- Statements whose first strings are directives, read one by one.
+use Rattle.std.proofs.Common.{◌≡◌, ℕ, Bool, true, false, Option, Some, None, refl, ap, sym, ◌∙◌}
+use Rattle.js_tree.specs.declared.place.Loc.{Loc}
+use Rattle.js_tree.specs.Plain.{Expr, Stmt, Stmts, no_stmt, more_stmt, push_stmts}
+use Rattle.js_tree.specs.Plain as tree
+use Rattle.js_tree.specs.Height.{height_stmts}
+use Rattle.js_reading.specs.Makes.{with_directives}
+use Rattle.js_reading.proofs.Heights.{directives_same}
+use Rattle.js_build.specs.Prologue.{directive_of, is_string, is_string_statement}
+
+pub no_directive : (l : Option Loc) (e : Expr) → is_string e ≡ false → directive_of (tree.Expression l e) ≡ tree.Expression l e
+no_directive l (tree.StringLiteral m s) h = cc
+no_directive l e h = refl
+
+-- what is made so far, and the rest
+abbrev pub joined : Stmts → Stmts → Stmts
+joined no_stmt ys = ys
+joined (more_stmt x xs) ys = more_stmt x (joined xs ys)
+
+pub joined_push : (xs : Stmts) (x : Stmt) (ys : Stmts) → joined (push_stmts xs x) ys ≡ joined xs (more_stmt x ys)
+joined_push no_stmt x ys = refl
+joined_push (more_stmt y xs) x ys = ap (more_stmt y) (joined_push xs x ys)
+
+pub joined_end : (xs : Stmts) → joined xs no_stmt ≡ xs
+joined_end no_stmt = refl
+joined_end (more_stmt y xs) = ap (more_stmt y) (joined_end xs)
+
+-- the rest as it will be
+abbrev pub rest : Bool → Stmts → Stmts
+rest true ss = with_directives ss
+rest false ss = ss
+
+pub rest_string : (s : Stmt) (ss : Stmts) → is_string_statement s ≡ true → rest true (more_stmt s ss) ≡ more_stmt (directive_of s) (rest true ss)
+rest_string (tree.Expression l (tree.StringLiteral m s)) ss h = refl
+rest_string s ss h = cc
+
+pub rest_other : (s : Stmt) (ss : Stmts) → is_string_statement s ≡ false → rest true (more_stmt s ss) ≡ more_stmt s (rest false ss)
+rest_other (tree.Expression l (tree.StringLiteral m s)) ss h = cc
+rest_other s ss h = refl
+
+pub ruleset prologue_rules = (joined_push, joined_end, rest_string, rest_other, directives_same)

@@ -1,0 +1,10 @@
+pub mod Measures
+pub mod View
+pub mod Shapes
+pub mod Mixed
+pub mod Names
+pub mod Prologue
+pub mod CallShapes
+pub mod Labels
+pub mod Callables
+pub mod Concise
