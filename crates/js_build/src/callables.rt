@@ -11,6 +11,7 @@ ghost use Rattle.js_build.specs.View.{plain_pieces};
 use crate::make::above;
 use crate::names::bound;
 use crate::parts::{Initializer, MadeBody, MadeFunction, MadeParam, MadeParams};
+use crate::piece::discard;
 use crate::place::through;
 use crate::prologue::with_directives;
 use crate::queue::Pieces;
@@ -28,9 +29,15 @@ pub(crate) fn initializer(pieces: &mut Pieces) -> Option<Initializer>
         Some(Piece::Missing) => Some(Initializer::Without),
         Some(Piece::Expression(value)) => match pieces.next() {
             Some(Piece::Place(end)) => Some(Initializer::With(value, end)),
-            _ => None,
+            other => {
+                discard(other);
+                None
+            }
         },
-        _ => None,
+        other => {
+            discard(other);
+            None
+        }
     }
 }
 
@@ -115,11 +122,17 @@ pub(crate) fn braces(pieces: &mut Pieces) -> Option<(Statements, Loc)>
 {
     let statements = match pieces.next() {
         Some(Piece::Statements(statements)) => statements,
-        _ => return None,
+        other => {
+            discard(other);
+            return None;
+        }
     };
     match pieces.next() {
         Some(Piece::Place(closing)) => Some((statements, closing)),
-        _ => None,
+        other => {
+            discard(other);
+            None
+        }
     }
 }
 
@@ -166,7 +179,10 @@ pub(crate) fn callable(
                 let params = MadeParams { items, height };
                 return ending(alloc, params, opening, pieces);
             }
-            _ => return Ok(None),
+            other => {
+                discard(other);
+                return Ok(None);
+            }
         }
     }
 }
@@ -180,7 +196,10 @@ pub(crate) fn function(alloc: Global, mut pieces: Pieces) -> Result<Option<MadeF
         None => Ok(None),
         Some((function, _)) => match pieces.next() {
             None => Ok(Some(function)),
-            _ => Ok(None),
+            other => {
+                discard(other);
+                Ok(None)
+            }
         },
     }
 }

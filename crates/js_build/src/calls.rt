@@ -9,6 +9,7 @@ ghost use Rattle.js_build.specs.CallShapes as shape;
 ghost use Rattle.js_build.specs.View.{plain_pieces, Makes, MakesExpr};
 
 use crate::make::expression;
+use crate::piece::discard;
 use crate::queue::Pieces;
 use crate::shapes::{take_expression, two_expressions};
 use crate::{List, Operand, Piece};
@@ -29,11 +30,17 @@ pub(crate) fn one_list(mut pieces: Pieces) -> Option<List>
 {
     let list = match pieces.next() {
         Some(Piece::Expressions(_, list)) => list,
-        _ => return None,
+        other => {
+            discard(other);
+            return None;
+        }
     };
     match pieces.next() {
         None => Some(list),
-        _ => None,
+        other => {
+            discard(other);
+            None
+        }
     }
 }
 
@@ -143,11 +150,17 @@ fn new_rest(
     let (level, list) = match pieces.next() {
         Some(Piece::Missing) => (19, no_list(alloc)),
         Some(Piece::Expressions(_, list)) => (21, list),
-        _ => return Ok(None),
+        other => {
+            discard(other);
+            return Ok(None);
+        }
     };
     match pieces.next() {
         None => Ok(Some(Piece::Expression(new_node(alloc, level, place, callee, list)?))),
-        _ => Ok(None),
+        other => {
+            discard(other);
+            Ok(None)
+        }
     }
 }
 
@@ -173,11 +186,17 @@ fn dot_rest(
 {
     let name = match pieces.next() {
         Some(Piece::Word(name, _)) => name,
-        _ => return Ok(None),
+        other => {
+            discard(other);
+            return Ok(None);
+        }
     };
     match pieces.next() {
         None => Ok(Some(Piece::Expression(dot_node(alloc, place, object, name)?))),
-        _ => Ok(None),
+        other => {
+            discard(other);
+            Ok(None)
+        }
     }
 }
 

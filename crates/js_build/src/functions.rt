@@ -8,6 +8,7 @@ ghost use Rattle.js_build.specs.View.{plain_pieces, Makes, MakesExpr, MakesStmt}
 use crate::callables::function;
 use crate::make::{expression, statement};
 use crate::parts::MadeFunction;
+use crate::piece::discard;
 use crate::queue::Pieces;
 use crate::{Body, Operand, Piece};
 use items::Memory;
@@ -78,7 +79,10 @@ pub(crate) fn function_expression(
             };
             named(alloc, place, Some(name), pieces)
         }
-        _ => Ok(None),
+        other => {
+            discard(other);
+            Ok(None)
+        }
     }
 }
 
@@ -115,6 +119,9 @@ pub(crate) fn function_declaration(
             };
             declared(alloc, place, name, pieces)
         }
-        _ => Ok(None),
+        other => {
+            discard(other);
+            Ok(None)
+        }
     }
 }

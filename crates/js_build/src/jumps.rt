@@ -6,6 +6,7 @@ ghost use Rattle.js_build.specs.Labels.{label_of};
 ghost use Rattle.js_build.specs.View.{plain_pieces, Makes, MakesStmt};
 
 use crate::make::statement;
+use crate::piece::discard;
 use crate::queue::Pieces;
 use crate::{Body, Piece};
 use items::Memory;
@@ -22,11 +23,17 @@ fn label(mut pieces: Pieces) -> Option<Option<Identifier>>
             loc: Some(at),
             name,
         }),
-        _ => return None,
+        other => {
+            discard(other);
+            return None;
+        }
     };
     match pieces.next() {
         None => Some(label),
-        _ => None,
+        other => {
+            discard(other);
+            None
+        }
     }
 }
 
@@ -98,7 +105,10 @@ pub(crate) fn empty(alloc: Global, place: Loc, mut pieces: Pieces) -> Result<Opt
 {
     match pieces.next() {
         None => Ok(Some(Piece::Statement(empty_node(alloc, place)?))),
-        _ => Ok(None),
+        other => {
+            discard(other);
+            Ok(None)
+        }
     }
 }
 
@@ -112,6 +122,9 @@ pub(crate) fn debugger(
 {
     match pieces.next() {
         None => Ok(Some(Piece::Statement(debugger_node(alloc, place)?))),
-        _ => Ok(None),
+        other => {
+            discard(other);
+            Ok(None)
+        }
     }
 }

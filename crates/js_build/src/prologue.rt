@@ -69,7 +69,7 @@ fn into_directive(alloc: Global, statement: Stmt) -> Result<Stmt, Memory>
 
 /// Statements whose first strings are directives (11.2.1).
 #[tactic(auto, using(js_tree::proofs::Equations::stmts_push, crate::proofs::Directives::prologue_rules))]
-pub(crate) fn with_directives(alloc: Global, statements: Statements) -> Result<Statements, Memory>
+pub fn with_directives(alloc: Global, statements: Statements) -> Result<Statements, Memory>
     ensures { IfOk result (λ made. plain_stmts made.items ≡ makes.with_directives (plain_stmts statements.items)) }
 {
     let height = statements.height;

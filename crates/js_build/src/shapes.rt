@@ -2,6 +2,7 @@ ghost use Rattle.std.specs.Prelude.{◌≡◌};
 ghost use Rattle.js_build.specs.View.{plain_pieces};
 ghost use Rattle.js_build.specs.Shapes.{expr_stmt, expr_taken, first_expr, one_expr, one_stmt, operand_body, operand_if, operands, operands_of_three, stmt_if, three_exprs, two_exprs};
 
+use crate::piece::discard;
 use crate::queue::Pieces;
 use crate::{Body, Operand, Piece};
 
@@ -11,7 +12,10 @@ pub(crate) fn take_expression(pieces: &mut Pieces) -> Option<Operand>
 {
     match pieces.next() {
         Some(Piece::Expression(next)) => Some(next),
-        _ => None,
+        other => {
+            discard(other);
+            None
+        }
     }
 }
 
@@ -24,7 +28,10 @@ pub(crate) fn one_expression(mut pieces: Pieces) -> Option<Operand>
         None => None,
         Some(operand) => match pieces.next() {
             None => Some(operand),
-            _ => None,
+            other => {
+                discard(other);
+                None
+            }
         },
     }
 }
@@ -35,11 +42,17 @@ pub(crate) fn one_statement(mut pieces: Pieces) -> Option<Body>
 {
     let body = match pieces.next() {
         Some(Piece::Statement(body)) => body,
-        _ => return None,
+        other => {
+            discard(other);
+            return None;
+        }
     };
     match pieces.next() {
         None => Some(body),
-        _ => None,
+        other => {
+            discard(other);
+            None
+        }
     }
 }
 

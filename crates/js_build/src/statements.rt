@@ -7,6 +7,7 @@ ghost use Rattle.js_build.specs.View.{plain_pieces, Makes, MakesStmt};
 
 use crate::make::statement;
 use crate::names::into_identifier;
+use crate::piece::discard;
 use crate::queue::Pieces;
 use crate::shapes::{an_expression_a_statement, one_expression};
 use crate::{Body, Operand, Piece, Statements};
@@ -19,7 +20,10 @@ macro_rules! next {
     ($variant:ident, $pieces:expr) => {
         match $pieces.next() {
             Some(Piece::$variant(next)) => next,
-            _ => return Ok(None),
+            other => {
+                discard(other);
+                return Ok(None);
+            }
         }
     };
 }
@@ -188,7 +192,10 @@ pub(crate) fn block(alloc: Global, place: Loc, mut pieces: Pieces) -> Result<Opt
     let statements = next!(Statements, pieces);
     match pieces.next() {
         None => Ok(Some(Piece::Statement(block_node(alloc, place, statements)?))),
-        _ => Ok(None),
+        other => {
+            discard(other);
+            Ok(None)
+        }
     }
 }
 
@@ -221,11 +228,17 @@ pub(crate) fn if_statement(
     let otherwise = match pieces.next() {
         Some(Piece::Missing) => None,
         Some(Piece::Statement(otherwise)) => Some(otherwise),
-        _ => return Ok(None),
+        other => {
+            discard(other);
+            return Ok(None);
+        }
     };
     match pieces.next() {
         None => {}
-        _ => return Ok(None),
+        other => {
+            discard(other);
+            return Ok(None);
+        }
     }
     match otherwise {
         None => Ok(Some(Piece::Statement(if_node(alloc, place, test, then)?))),
@@ -246,11 +259,17 @@ pub(crate) fn return_statement(
     let value = match pieces.next() {
         Some(Piece::Missing) => None,
         Some(Piece::Expression(value)) => Some(value),
-        _ => return Ok(None),
+        other => {
+            discard(other);
+            return Ok(None);
+        }
     };
     match pieces.next() {
         None => {}
-        _ => return Ok(None),
+        other => {
+            discard(other);
+            return Ok(None);
+        }
     }
     match value {
         None => Ok(Some(Piece::Statement(return_node(alloc, place)?))),

@@ -2,6 +2,7 @@ ghost use Rattle.std.specs.Prelude.{◌≡◌};
 ghost use Rattle.js_tree.specs.Tree.{plain_expr, plain_stmt};
 ghost use Rattle.js_reading.specs.Makes as makes;
 ghost use Rattle.js_build.specs.Mixed as mixed;
+ghost use Rattle.js_build.specs.NameTests as names;
 
 use js_tree::{Expr, ExprNode, LogicalOperator, Stmt, StmtNode, VariableKind};
 
@@ -47,6 +48,28 @@ pub(crate) fn is_mixed(operator: LogicalOperator, left: &Expr) -> bool
 {
     match operator {
         LogicalOperator::Coalesce => is_and_or(left),
+        _ => false,
+    }
+}
+
+/// Whether an expression is a name alone.
+#[tactic(auto, using(js_tree::proofs::Equations::tree_rules))]
+pub(crate) fn is_name(expression: &Expr) -> bool
+    ensures { result ≡ names.is_name (plain_expr expression.now) }
+{
+    match expression.node {
+        ExprNode::IdentifierReference(_) => true,
+        _ => false,
+    }
+}
+
+/// Whether an expression is the bare name `async` (14.7.5).
+#[tactic(auto, using(js_tree::proofs::Equations::tree_rules))]
+pub(crate) fn is_async(expression: &Expr) -> bool
+    ensures { result ≡ makes.is_async (plain_expr expression.now) }
+{
+    match &expression.node {
+        ExprNode::IdentifierReference(name) => name.as_str() == "async",
         _ => false,
     }
 }

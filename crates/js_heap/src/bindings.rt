@@ -18,11 +18,19 @@ const FEW: usize = 8;
 /// The names of an environment in the order in which they were declared. A few of them are looked for
 /// along their list, which is quick and takes the least memory. From 9 on an index tells the first
 /// place of each.
-#[derive(Drop)]
 pub struct Bindings {
     pub(crate) items: Vec<Binding>,
     index: Option<Box<IndexMap<String, usize>>>,
     ghost indexed: { ForSome index (λ i. IsIndexOf (get_by_text i.value) (map (λ b. b.name) items.items)) },
+}
+
+impl Drop for Bindings {
+    // Written out, so that what drops one calls this and needn't prove it again.
+    fn drop(self) {
+        let Bindings { items, index } = self;
+        drop(items);
+        drop(index);
+    }
 }
 
 /// The index with the place of one more name, if it has none of it yet.
@@ -78,10 +86,7 @@ impl Bindings {
     {
         match &self.index {
             Some(index) => index.get(name.as_str()).copied(),
-            None => self
-                .items
-                .iter()
-                .position(|binding| binding.name.as_str() == name.as_str()),
+            None => self.items.iter().position(|binding| binding.has(name)),
         }
     }
 
@@ -90,8 +95,9 @@ impl Bindings {
         ensures ok { OnOk result (self.new.items.items ≡ self.old.items.items ++ binding ∷ []) }
         ensures err { OnErr result (self.new.items.items ≡ self.old.items.items) }
     {
+        self.items.reserve(1)?;
         let index = self.index_with(&binding.name)?;
-        self.items.push(binding)?;
+        self.items.push_reserved(binding);
         self.index = index;
         Ok(())
     }
@@ -107,21 +113,22 @@ impl Bindings {
         let alloc = *self.items.allocator();
         let place = self.items.len();
         if let Some(index) = self.index.take() {
-            return Ok(Some(with_name(alloc, index, name, place)?));
+            return with_name(alloc, index, name, place).map(Some);
         }
         if place < FEW {
             return Ok(None);
         }
         let index = index_of(alloc, self.items.as_slice())?;
-        Ok(Some(with_name(alloc, index, name, place)?))
+        with_name(alloc, index, name, place).map(Some)
     }
 
     /// Gives the name at this place, where there is one, its first value (9.1.1.1.4).
     pub fn init(&mut self, place: usize, value: Value)
         ensures { plain_bindings self.new ≡ with_initialized_among place value (plain_bindings self.old) }
     {
-        if let Some(binding) = self.items.get_mut(place) {
-            binding.value = Some(value);
+        match self.items.get_mut(place) {
+            Some(binding) => binding.init(value),
+            None => drop(value),
         }
     }
 
@@ -133,7 +140,10 @@ impl Bindings {
     {
         match self.items.get_mut(place) {
             Some(binding) => binding.assign(value),
-            None => Assign::Dead,
+            None => {
+                drop(value);
+                Assign::Dead
+            }
         }
     }
 }

@@ -5,11 +5,11 @@ ghost use Rattle.js_value.specs.Objects as spec;
 ghost use Rattle.js_heap.specs.Object.{plain_object, plain_delete, property_with};
 ghost use Rattle.js_heap.specs.private.Object.{with_deleted, with_removed, array_delete};
 
-use crate::object::{Flags, LENGTH, ObjectKind, ObjectRecord};
+use crate::object::{Flags, ObjectKind, ObjectRecord, is_length};
 use js_value::{Str, index_of};
 
 /// What a delete of a property answers.
-#[derive(Clone, Copy, Debug, PartialEq, Eq)]
+#[derive(Clone, Copy, PartialEq, Eq)]
 pub enum Delete {
     /// There is no such property any more, or there was none.
     Done,
@@ -28,7 +28,7 @@ fn delete_of_array(key: &Str) -> Delete
 {
     match index_of(key.as_slice()) {
         Some(_) => Delete::Sparse,
-        None if key.as_slice() == LENGTH.as_slice() => Delete::Frozen,
+        None if is_length(key) => Delete::Frozen,
         None => Delete::Done,
     }
 }

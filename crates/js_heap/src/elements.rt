@@ -6,11 +6,19 @@ use js_value::{Primitive, Value};
 use std::alloc::{AllocError, Global};
 
 /// The elements of an array, with their number as a value, which can be lent.
-#[derive(Drop)]
 pub struct Elements {
     pub(crate) items: Vec<Value>,
     pub(crate) count: Value,
     ghost counted: { count ≡ count_value (length items.items) },
+}
+
+impl Drop for Elements {
+    // Written out, so that what drops one calls this and needn't prove it again.
+    fn drop(self) {
+        let Elements { items, count } = self;
+        drop(items);
+        drop(count);
+    }
 }
 
 impl Elements {
@@ -26,16 +34,13 @@ impl Elements {
         }
     }
 
-    /// These elements. More than a number can tell are answered as want of memory.
-    pub fn new(items: Items<Value>) -> Result<Elements, Memory>
-        ensures { IfOk result (λ made. made.items.items ≡ items) }
+    /// These elements.
+    pub fn new(items: Items<Value>) -> Elements
+        ensures { result.items.items ≡ items }
     {
         let items = items.into_vec();
-        let length = number_of(items.len())?;
-        Ok(Elements {
-            items,
-            count: length,
-        })
+        let count = count_of(&items);
+        Elements { items, count }
     }
 
     /// The elements, lent.
@@ -51,12 +56,8 @@ impl Elements {
         ensures err { OnErr result (self.new.items.items ≡ self.old.items.items) }
     {
         let mut more = more.into_vec();
-        let Some(sum) = self.items.len().checked_add(more.len()) else {
-            return Err(AllocError);
-        };
-        let length = number_of(sum)?;
         self.items.append(&mut more)?;
-        self.count = length;
+        write_over(&mut self.count, count_of(&self.items));
         Ok(())
     }
 
@@ -65,12 +66,8 @@ impl Elements {
         ensures ok { OnOk result (self.new.items.items ≡ self.old.items.items ++ value ∷ []) }
         ensures err { OnErr result (self.new.items.items ≡ self.old.items.items) }
     {
-        let Some(sum) = self.items.len().checked_add(1) else {
-            return Err(AllocError);
-        };
-        let length = number_of(sum)?;
         self.items.push(value)?;
-        self.count = length;
+        write_over(&mut self.count, count_of(&self.items));
         Ok(())
     }
 
@@ -78,8 +75,9 @@ impl Elements {
     pub fn put(&mut self, place: usize, value: Value)
         ensures { self.new.items.items ≡ slice_set self.old.items.items place value }
     {
-        if place < self.items.len() {
-            self.items[place] = value;
+        match self.items.get_mut(place) {
+            Some(held) => write_over(held, value),
+            None => drop(value),
         }
     }
 
@@ -88,14 +86,24 @@ impl Elements {
         ensures { self.new.items.items ≡ take size self.old.items.items }
     {
         if size < self.items.len() {
-            if let Value::Primitive(Primitive::Number(number)) = self.count {
-                let left = Value::Primitive(Primitive::Number(size as i64));
-                prove!(0 <= number);
-                self.items.truncate(size);
-                self.count = left;
-            }
+            self.items.truncate(size);
+            write_over(&mut self.count, count_of(&self.items));
         }
     }
+}
+
+/// Writes a value over another one. Apart, so that the drop of what was there is proved once.
+pub(crate) fn write_over(held: &mut Value, value: Value)
+    ensures { held.new ≡ value }
+{
+    *held = value;
+}
+
+/// The number of these elements as a value: no more stand in memory than a number can tell.
+fn count_of(items: &Vec<Value>) -> Value
+    ensures { result ≡ count_value (length items.now.items) }
+{
+    Value::Primitive(Primitive::Number(items.len() as i64))
 }
 
 /// A count as a value. More than a number can tell is answered as want of memory.

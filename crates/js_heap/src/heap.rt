@@ -20,10 +20,22 @@ pub struct Heap {
     alloc: Global,
     objects: Vec<ObjectRecord>,
     environments: Vec<Environment>,
-    nothing: ObjectRecord,
-    nowhere: Environment,
-    ghost plain_nothing: { plain_object nothing ≡ no_object },
-    ghost plain_nowhere: { plain_environment nowhere ≡ no_environment },
+    nothing: Nothing,
+    nowhere: Nowhere,
+}
+
+// Types of their own, so that a change of the heap needn't prove again what they are.
+
+/// What a reference to no object is to.
+struct Nothing {
+    object: ObjectRecord,
+    ghost plain: { plain_object object ≡ no_object },
+}
+
+/// What a reference to no environment is to.
+struct Nowhere {
+    environment: Environment,
+    ghost plain: { plain_environment environment ≡ no_environment },
 }
 
 impl Drop for Heap {
@@ -33,13 +45,13 @@ impl Drop for Heap {
             alloc: _,
             objects,
             environments,
-            nothing,
-            nowhere,
+            nothing: Nothing { object },
+            nowhere: Nowhere { environment },
         } = self;
         drop(objects);
         drop(environments);
-        drop(nothing);
-        drop(nowhere);
+        drop(object);
+        drop(environment);
     }
 }
 
@@ -50,7 +62,7 @@ impl Heap {
     ghost use Rattle.js_value.specs.Texts.{own_of_text, keys_of_text, get_of_text, delete_of_text};
     ghost use Rattle.js_value.specs.Environments.{environment_at, place_of, next_environment, new_environment, declare, lookup, value_of, init, assign, assign_answer};
     ghost use Rattle.js_heap.specs.Object.{plain_kind, plain_set, plain_delete, property_with};
-    ghost use Rattle.js_heap.specs.Environment.{plain_cell, plain_assign};
+    ghost use Rattle.js_heap.specs.Environment.{plain_binding, plain_cell, plain_assign};
     ghost use Rattle.js_value.specs.Realm.{empty_heap};
     ghost use Rattle.js_heap.specs.private.Write.{bars, seen_of};
     ghost use Rattle.js_heap.specs.private.Environment.{cell_at};
@@ -64,8 +76,12 @@ impl Heap {
             alloc,
             objects: Vec::new(alloc),
             environments: Vec::new(alloc),
-            nothing: ObjectRecord::new(alloc, ObjectKind::Plain, None),
-            nowhere: Environment::new(alloc, None),
+            nothing: Nothing {
+                object: ObjectRecord::new(alloc, ObjectKind::Plain, None),
+            },
+            nowhere: Nowhere {
+                environment: Environment::new(alloc, None),
+            },
         }
     }
 
@@ -102,10 +118,9 @@ impl Heap {
         ensures err { OnErr result (heap_of self.new ≡ heap_of self.old) }
     {
         let made = Object::at(self.objects.len() as u64);
-        let elements = Elements::new(elements)?;
-        let mut record = ObjectRecord::new(self.alloc, ObjectKind::Array, Some(prototype));
-        record.elements = elements;
-        self.objects.push(record)?;
+        let elements = Elements::new(elements);
+        self.objects
+            .push(ObjectRecord::array(self.alloc, prototype, elements))?;
         Ok(made)
     }
 
@@ -123,7 +138,7 @@ impl Heap {
         ensures err { OnErr result (heap_of self.new ≡ heap_of self.old) }
     {
         match self.objects.get_mut(object.index() as usize) {
-            Some(record) => record.append(more),
+            Some(record) => record.elements.append(more),
             None => Ok(()),
         }
     }
@@ -133,7 +148,7 @@ impl Heap {
         ensures { heap_of self.new ≡ cut object.index size (heap_of self.old) }
     {
         if let Some(record) = self.objects.get_mut(object.index() as usize) {
-            record.cut(size);
+            record.elements.cut(size);
         }
     }
 
@@ -143,7 +158,7 @@ impl Heap {
             ≡ with_elements object.index elements (heap_of self.old)) }
         ensures err { OnErr result (heap_of self.new ≡ heap_of self.old) }
     {
-        let elements = Elements::new(elements)?;
+        let elements = Elements::new(elements);
         if let Some(record) = self.objects.get_mut(object.index() as usize) {
             record.elements = elements;
         }
@@ -163,9 +178,9 @@ impl Heap {
             ≡ define object.index (property_with name.now value flags) (heap_of self.old)) }
         ensures err { OnErr result (heap_of self.new ≡ heap_of self.old) }
     {
-        let key = name.copy()?;
+        let property = Property::new(name, value, flags)?;
         match self.objects.get_mut(object.index() as usize) {
-            Some(record) => record.define(Property { key, value, flags }),
+            Some(record) => record.properties.define(property),
             None => Ok(()),
         }
     }
@@ -192,7 +207,10 @@ impl Heap {
         let barred = self.bars(object, name);
         match self.objects.get_mut(object.index() as usize) {
             Some(record) => record.set(name, value, barred),
-            None => Ok(Set::Done),
+            None => {
+                drop(value);
+                Ok(Set::Done)
+            }
         }
     }
 
@@ -272,7 +290,7 @@ impl Heap {
             return Ok(Some(value));
         }
         match self.get(prototype, name) {
-            Some(value) => Ok(Some(value.copy()?)),
+            Some(value) => value.copy().map(Some),
             None => Ok(None),
         }
     }
@@ -333,14 +351,26 @@ impl Heap {
             value,
             constant,
         };
-        let place = match self.environments.get_mut(env.index() as usize) {
-            Some(environment) => environment.declare(binding)?,
-            None => 0,
-        };
+        let place = self.declare_in(env, binding)?;
         Ok(Cell {
             environment: env,
             place: place as u64,
         })
+    }
+
+    /// Puts one more name after the others of the environment, and tells its place. On want of memory
+    /// nothing changes.
+    fn declare_in(&mut self, env: Env, binding: Binding) -> Result<usize, Memory>
+        ensures ok { OnOk result (heap_of self.new
+            ≡ declare env.index (plain_binding binding) (heap_of self.old)) }
+        ensures place { IfOk result (λ place. place
+            ≡ length (environment_at (heap_of self.old) env.index).bindings) }
+        ensures err { OnErr result (heap_of self.new ≡ heap_of self.old) }
+    {
+        match self.environments.get_mut(env.index() as usize) {
+            Some(environment) => environment.declare(binding),
+            None => Ok(0),
+        }
     }
 
     /// The cell of this name: of the environment, or else of the first outward that has it (9.1.2.1).
@@ -375,8 +405,9 @@ impl Heap {
     pub fn init(&mut self, cell: Cell, value: Value)
         ensures { heap_of self.new ≡ init (plain_cell cell) value (heap_of self.old) }
     {
-        if let Some(environment) = self.environments.get_mut(cell.environment.index() as usize) {
-            environment.init(cell.place as usize, value);
+        match self.environments.get_mut(cell.environment.index() as usize) {
+            Some(environment) => environment.bindings.init(cell.place as usize, value),
+            None => drop(value),
         }
     }
 
@@ -388,8 +419,11 @@ impl Heap {
             ≡ assign (plain_cell cell) value (heap_of self.old) }
     {
         match self.environments.get_mut(cell.environment.index() as usize) {
-            Some(environment) => environment.assign(cell.place as usize, value),
-            None => Assign::Dead,
+            Some(environment) => environment.bindings.assign(cell.place as usize, value),
+            None => {
+                drop(value);
+                Assign::Dead
+            }
         }
     }
 
@@ -433,7 +467,7 @@ impl Heap {
     {
         match self.objects.get(object.index() as usize) {
             Some(record) => record,
-            None => &self.nothing,
+            None => &self.nothing.object,
         }
     }
 
@@ -443,7 +477,7 @@ impl Heap {
     {
         match self.environments.get(env.index() as usize) {
             Some(environment) => environment,
-            None => &self.nowhere,
+            None => &self.nowhere.environment,
         }
     }
 

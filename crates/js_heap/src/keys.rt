@@ -35,8 +35,7 @@ pub(crate) fn put_dense(alloc: Global, keys: &mut Items<Key>, count: usize) -> R
     keys.push(Key {
         key,
         enumerable: false,
-    })?;
-    Ok(())
+    })
 }
 
 /// Puts the keys of so many elements after others.
@@ -103,7 +102,7 @@ fn indexed(alloc: Global, properties: &[Property]) -> Result<BTreeMap<u32, Key>,
     let mut sorted = BTreeMap::new(alloc);
     for property in properties {
         if let Some(index) = index_of(property.key.as_slice()) {
-            sorted.insert(index, key_of(property)?)?;
+            drop(sorted.insert(index, key_of(property)?)?);
         }
     }
     Ok(sorted)

@@ -1,4 +1,6 @@
 ghost use Rattle.std.specs.Prelude.{◌≡◌, OnOk, OnErr, option_map};
+ghost use Rattle.std.specs.Str.{bytes_eq};
+ghost use Rattle.js_value.specs.Objects.{array_length};
 
 use crate::Env;
 use crate::elements::Elements;
@@ -8,7 +10,7 @@ use js_value::{Object, Str, Value, index_of};
 use std::alloc::Global;
 
 /// What an object is (ECMA-262, 10.1 to 10.4).
-#[derive(Clone, Copy, Debug, PartialEq, Eq)]
+#[derive(Clone, Copy)]
 pub enum ObjectKind {
     /// An ordinary object (10.1).
     Plain,
@@ -26,7 +28,7 @@ pub enum ObjectKind {
 }
 
 /// The attributes of a data property (6.1.7.1).
-#[derive(Clone, Copy, Debug, PartialEq, Eq)]
+#[derive(Clone, Copy)]
 pub struct Flags {
     /// Whether it is enumerated.
     pub enumerable: bool,
@@ -49,16 +51,47 @@ const LENGTH_FLAGS: Flags = Flags {
 /// The key of an array's length.
 pub(crate) const LENGTH: [u16; 6] = [108, 101, 110, 103, 116, 104];
 
+/// Whether this is the key of an array's length.
+pub(crate) fn is_length(key: &Str) -> bool
+    ensures { result ≡ bytes_eq key.now array_length }
+{
+    key.as_slice() == LENGTH.as_slice()
+}
+
 /// A data property (6.1.7.1).
-#[derive(Drop)]
 pub struct Property {
     pub key: Str,
     pub value: Value,
     pub flags: Flags,
 }
 
+impl Drop for Property {
+    // Written out, so that what drops one calls this and needn't prove it again.
+    fn drop(self) {
+        let Property {
+            key,
+            value,
+            flags: _,
+        } = self;
+        drop(key);
+        drop(value);
+    }
+}
+
 impl Property {
-    ghost use Rattle.std.specs.Str.{bytes_eq};
+    ghost use Rattle.std.specs.Prelude.{IfOk};
+    ghost use Rattle.js_heap.specs.Object.{plain_property, property_with};
+
+    /// A property of this key.
+    pub fn new(key: &Str, value: Value, flags: Flags) -> Result<Property, Memory>
+        ensures { IfOk result (λ made. plain_property made ≡ property_with key.now value flags) }
+    {
+        Ok(Property {
+            key: key.copy()?,
+            value,
+            flags,
+        })
+    }
 
     /// Whether this is its key.
     pub fn has(&self, key: &Str) -> bool
@@ -70,7 +103,6 @@ impl Property {
 
 /// An object, with the elements that it has where it is an array, and its other own properties in the
 /// order in which they were added.
-#[derive(Drop)]
 pub struct ObjectRecord {
     pub kind: ObjectKind,
     pub prototype: Option<Object>,
@@ -79,11 +111,26 @@ pub struct ObjectRecord {
     pub properties: Properties,
 }
 
+impl Drop for ObjectRecord {
+    // Written out, so that what drops one calls this and needn't prove it again.
+    fn drop(self) {
+        let ObjectRecord {
+            kind: _,
+            prototype: _,
+            frozen: _,
+            elements,
+            properties,
+        } = self;
+        drop(elements);
+        drop(properties);
+    }
+}
+
 impl ObjectRecord {
-    ghost use Rattle.std.specs.Prelude.{[], false, not, ◌&&◌};
+    ghost use Rattle.std.specs.Prelude.{[], false, not, ◌&&◌, Some};
+    ghost use Rattle.js_value.specs.State.{Array};
     ghost use Rattle.js_value.specs.Objects.{property_of, own_of, own_of_array};
     ghost use Rattle.js_heap.specs.Object.{plain_kind, plain_property, plain_object, property_with};
-    ghost use Rattle.js_heap.specs.private.Object.{with_defined, with_more, with_cut};
 
     /// An object of no elements and no other properties, which takes no memory.
     pub fn new(alloc: Global, kind: ObjectKind, prototype: Option<Object>) -> ObjectRecord
@@ -100,6 +147,25 @@ impl ObjectRecord {
             prototype,
             frozen: false,
             elements: Elements::none(alloc),
+            properties: Properties::none(alloc),
+        }
+    }
+
+    /// An array of these elements, with no other properties (10.4.2.2).
+    pub fn array(alloc: Global, prototype: Object, elements: Elements) -> ObjectRecord
+        ensures { plain_object result ≡ record {
+          kind = Array;
+          prototype = Some prototype.index;
+          frozen = false;
+          elements = elements.items.items;
+          properties = [];
+        } }
+    {
+        ObjectRecord {
+            kind: ObjectKind::Array,
+            prototype: Some(prototype),
+            frozen: false,
+            elements,
             properties: Properties::none(alloc),
         }
     }
@@ -139,36 +205,8 @@ impl ObjectRecord {
     {
         match index_of(key.as_slice()) {
             Some(index) => Some((self.elements.items.get(index as usize)?, ELEMENT)),
-            None if key.as_slice() == LENGTH.as_slice() => Some((
-                &self.elements.count,
-                LENGTH_FLAGS,
-            )),
+            None if is_length(key) => Some((&self.elements.count, LENGTH_FLAGS)),
             None => self.property(key),
         }
-    }
-
-    /// Puts more elements after those that it has. On want of memory nothing changes.
-    pub fn append(&mut self, more: Items<Value>) -> Result<(), Memory>
-        ensures ok { OnOk result (plain_object self.new ≡ with_more more (plain_object self.old)) }
-        ensures err { OnErr result (plain_object self.new ≡ plain_object self.old) }
-    {
-        self.elements.append(more)
-    }
-
-    /// Leaves the first so many elements, and no others.
-    pub fn cut(&mut self, size: usize)
-        ensures { plain_object self.new ≡ with_cut size (plain_object self.old) }
-    {
-        self.elements.cut(size);
-    }
-
-    /// Puts the property in the place of its own of the same key, or after the others (10.1.6). On
-    /// want of memory nothing changes.
-    pub fn define(&mut self, property: Property) -> Result<(), Memory>
-        ensures ok { OnOk result (plain_object self.new
-            ≡ with_defined (plain_property property) (plain_object self.old)) }
-        ensures err { OnErr result (plain_object self.new ≡ plain_object self.old) }
-    {
-        self.properties.define(property)
     }
 }

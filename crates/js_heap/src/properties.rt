@@ -3,6 +3,7 @@ ghost use Rattle.std.specs.Option.{ForSome};
 ghost use Rattle.std.specs.Str.{bytes_eq};
 ghost use Rattle.indexmap.specs.IndexSet.{keys};
 
+use crate::elements::write_over;
 use crate::object::Property;
 use indexmap::IndexSet;
 use items::Memory;
@@ -15,24 +16,33 @@ const FEW: usize = 8;
 /// The properties of an object that are no elements, in the order in which they were added. A few of
 /// them are looked for along their list, which is quick and takes the least memory. From 9 on their
 /// keys also stand in an index, each at its property's place.
-#[derive(Drop)]
 pub struct Properties {
     pub(crate) items: Vec<Property>,
     index: Option<Box<IndexSet<Str>>>,
     ghost indexed: { ForSome index (λ i. keys i.value ≡ map (λ p. p.key) items.items) },
 }
 
+impl Drop for Properties {
+    // Written out, so that what drops one calls this and needn't prove it again.
+    fn drop(self) {
+        let Properties { items, index } = self;
+        drop(items);
+        drop(index);
+    }
+}
+
 /// The index of these properties. There is none where two have one key.
 fn index_of(alloc: Global, properties: &[Property]) -> Result<Option<Box<IndexSet<Str>>>, Memory>
     ensures { IfOk result (λ made. ForSome made (λ i. keys i.value ≡ map (λ p. p.key) properties.now)) }
 {
-    let mut index = IndexSet::new(alloc);
+    let mut index = Box::new(alloc, IndexSet::new(alloc))?;
     for property in properties {
-        if !index.insert(property.key.copy()?)? {
-            return Ok(None);
+        match with_key(index, &property.key)? {
+            Some(more) => index = more,
+            None => return Ok(None),
         }
     }
-    Ok(Some(Box::new(alloc, index)?))
+    Ok(Some(index))
 }
 
 /// The index with one more key. There is none where it has the key.
@@ -40,10 +50,8 @@ fn with_key(index: Box<IndexSet<Str>>, key: &Str) -> Result<Option<Box<IndexSet<
     ensures { IfOk result (λ made. ForSome made (λ i. keys i.value ≡ keys index.value ++ key.now ∷ [])) }
 {
     let mut index = index;
-    if !index.insert(key.copy()?)? {
-        return Ok(None);
-    }
-    Ok(Some(index))
+    let is_new = index.insert(key.copy()?)?;
+    Ok(is_new.then_some(index))
 }
 
 /// The index without the key.
@@ -92,8 +100,9 @@ impl Properties {
         ensures ok { OnOk result (self.new.items.items ≡ self.old.items.items ++ property ∷ []) }
         ensures err { OnErr result (self.new.items.items ≡ self.old.items.items) }
     {
+        self.items.reserve(1)?;
         let index = self.index_with(&property.key)?;
-        self.items.push(property)?;
+        self.items.push_reserved(property);
         self.index = index;
         Ok(())
     }
@@ -125,18 +134,21 @@ impl Properties {
         ensures err { OnErr result (plain_properties self.new ≡ plain_properties self.old) }
     {
         match self.place_of(&property.key) {
-            Some(place) => self.items[place] = property,
-            None => self.push(property)?,
+            Some(place) => {
+                self.items[place] = property;
+                Ok(())
+            }
+            None => self.push(property),
         }
-        Ok(())
     }
 
     /// Gives the property of this key, where there is one, the value.
     pub fn give(&mut self, key: &Str, value: Value)
         ensures { plain_properties self.new ≡ with_value_of key.now value (plain_properties self.old) }
     {
-        if let Some(place) = self.place_of(key) {
-            self.items[place].value = value;
+        match self.place_of(key) {
+            Some(place) => write_over(&mut self.items[place].value, value),
+            None => drop(value),
         }
     }
 

@@ -8,7 +8,7 @@ ghost use Rattle.js_heap.specs.Object.{property_with, plain_delete};
 
 use crate::Delete;
 use crate::elements::number_of;
-use crate::object::{Flags, LENGTH};
+use crate::object::{Flags, is_length};
 use items::Memory;
 use js_value::{Primitive, Str, Value, index_of};
 use std::alloc::Global;
@@ -36,10 +36,7 @@ pub(crate) fn own_of_text(
 {
     match index_of(key.as_slice()) {
         Some(index) => unit_of(alloc, text, index, key),
-        None if key.as_slice() == LENGTH.as_slice() => Ok(Some((
-            number_of(text.len())?,
-            LENGTH_OF_TEXT,
-        ))),
+        None if is_length(key) => Ok(Some((number_of(text.len())?, LENGTH_OF_TEXT))),
         None => Ok(None),
     }
 }
@@ -66,7 +63,7 @@ pub fn delete_of_text(text: &Str, key: &Str) -> Delete
 {
     let has = match index_of(key.as_slice()) {
         Some(index) => (index as usize) < text.len(),
-        None => key.as_slice() == LENGTH.as_slice(),
+        None => is_length(key),
     };
     if has { Delete::Frozen } else { Delete::Done }
 }

@@ -5,12 +5,12 @@ ghost use Rattle.js_value.specs.Objects as spec;
 ghost use Rattle.js_heap.specs.Object.{plain_object, plain_set};
 ghost use Rattle.js_heap.specs.private.Write.{plain_write, write_in};
 
-use crate::object::{ELEMENT, LENGTH, ObjectKind, ObjectRecord, Property};
+use crate::object::{ELEMENT, ObjectKind, ObjectRecord, Property, is_length};
 use items::Memory;
 use js_value::{Primitive, Str, Value, index_of};
 
 /// What a write to a property answers.
-#[derive(Clone, Copy, Debug, PartialEq, Eq)]
+#[derive(Clone, Copy)]
 pub enum Set {
     /// The property has the value.
     Done,
@@ -101,9 +101,7 @@ impl ObjectRecord {
         }
         match index_of(key.as_slice()) {
             Some(index) => Write::Puts(index),
-            None if key.as_slice() == LENGTH.as_slice() => {
-                write_of_length(self.elements.items.len(), value)
-            }
+            None if is_length(key) => { write_of_length(self.elements.items.len(), value) }
             None => Write::Replaces,
         }
     }
@@ -129,36 +127,19 @@ impl ObjectRecord {
         ensures err { OnErr result (plain_object self.new ≡ plain_object self.old) }
     {
         match write {
-            Write::Replaces => self.give(key, value),
-            Write::Adds => self.add(key, value)?,
+            Write::Replaces => self.properties.give(key, value),
+            Write::Adds => {
+                let property = Property::new(key, value, ELEMENT)?;
+                return self.properties.push(property);
+            }
             Write::Puts(index) => self.elements.put(index as usize, value),
-            Write::Appends => self.elements.push(value)?,
-            Write::Cuts(size) => self.elements.cut(size),
-            Write::ReadOnly | Write::Sparse | Write::BadLength => {}
+            Write::Appends => return self.elements.push(value),
+            Write::Cuts(size) => {
+                drop(value);
+                self.elements.cut(size);
+            }
+            Write::ReadOnly | Write::Sparse | Write::BadLength => drop(value),
         }
-        Ok(())
-    }
-
-    /// Gives its own property of this key the value.
-    fn give(&mut self, key: &Str, value: Value)
-        ensures { plain_object self.new
-            ≡ spec.written (plain_object self.old) spec.Replaces key.now value }
-    {
-        self.properties.give(key, value);
-    }
-
-    /// Puts a new property after the others. On want of memory nothing changes.
-    fn add(&mut self, key: &Str, value: Value) -> Result<(), Memory>
-        ensures ok { OnOk result (plain_object self.new
-            ≡ spec.written (plain_object self.old) spec.Adds key.now value) }
-        ensures err { OnErr result (plain_object self.new ≡ plain_object self.old) }
-    {
-        let key = key.copy()?;
-        self.properties.push(Property {
-            key,
-            value,
-            flags: ELEMENT,
-        })?;
         Ok(())
     }
 }

@@ -4,6 +4,7 @@ ghost use Rattle.js_lexer.specs.Token.{plain_token};
 ghost use Rattle.js_text.specs.Lex as spec;
 ghost use Rattle.js_text.specs.Position.{position_of};
 ghost use Rattle.js_text.specs.Token as plain;
+ghost use Rattle.js_text.specs.declared.goal.Goal.TheVariants as goal;
 
 use crate::gap::skip_gap;
 use crate::kind::kind;
@@ -45,6 +46,22 @@ impl<'a> Lexer<'a> {
         Lexer {
             cursor: Cursor::new(text.as_str()),
         }
+    }
+
+    /// Another lexer at the same place.
+    pub fn again(&self) -> Lexer<'a>
+        ensures { result ≡ self.now }
+    {
+        Lexer {
+            cursor: self.cursor.again(),
+        }
+    }
+
+    /// Goes on over white space and comments to where the next token starts, if one does.
+    pub fn pass_gap(&mut self)
+        ensures { self.new ≡ spec.token_place goal.Div self.old }
+    {
+        skip_gap(&mut self.cursor, Goal::Div);
     }
 
     /// The token that stands next for a goal, or the place where none does. The end of the text is a

@@ -21,7 +21,7 @@ use Rattle.js_reading.proofs.Branches.{branches, each, among}
 use Rattle.js_reading.proofs.KindsLemmas.{kind_is}
 use Rattle.js_reading.proofs.Runs.{nowhere, by_bool, by_branch}
 use Rattle.js_reading.proofs.OnlyStatements.{NoExpr, no_expr_made}
-use Rattle.js_reading.proofs.Rows.{either_of, inner_kind, is_rest, makes, firm, held, after, well}
+use Rattle.js_reading.proofs.Rows.{either_of, inner_kind, sign_inner, is_rest, makes, firm, held, after, well}
 use Rattle.js_reading.proofs.Ways.{Framed, may, Ways, passing, is_pass, leave_way, left_way}
 
 -- ---- a token that begins nothing and stands within no production
@@ -51,7 +51,7 @@ pub stray_ways : {Q : Config → Type 0} (t : Token) (b : Bool) → Stray t → 
 stray_ways {Q = Q} t b s none = record {
   by_want = λ fs d fr h. leads_nowhere (stray_want t s fs) h;
   by_begin = λ fs d fr h. leads_nowhere (stray_begin t s fs) h;
-  by_sign = λ k f w ss ps fs is c fine fr. no_sign t k s.no_inner is c;
+  by_sign = λ k f w ss ps fs is c fine fr. no_sign t k s.no_inner (sign_inner k is) c;
   by_text = λ c p f w ss ps fs e m x fine fr. no_text c p ss e m;
   by_comma = λ fs c fr. no_sign t (T.Punctuator P.Comma) s.no_inner refl c;
   by_end = λ ss c. no_sign t End s.no_inner refl c;

@@ -1,5 +1,5 @@
 -- Where the parts of an open production are none that it may have, no run from there ends.
-use Rattle.std.proofs.Common.{◌≡◌, ℕ, ◌⊎◌, inl, inr, true, false, not, ◌&&◌, List, [], ◌∷◌, ◌++◌, Option, Some, None, refl, sym, ap, subst, ◌∙◌, append_assoc, append-nil}
+use Rattle.std.proofs.Common.{◌≡◌, ℕ, ◌⊎◌, inl, inr, true, false, not, ◌&&◌, List, [], ◌∷◌, ◌++◌, Option, Some, None, sym, ap, subst, ◌∙◌, append_assoc, append-nil}
 use Rattle.std.specs.Prelude.{nat_le}
 use Rattle.js_tree.specs.declared.place.Loc.{Loc}
 use Rattle.js_tree.specs.Plain.{Expr, no_expr, push_exprs, Stmt, no_stmt, push_stmts}
@@ -13,12 +13,12 @@ use Rattle.js_reading.specs.Slots as slot
 use Rattle.js_reading.specs.Productions.{primary, is_mark, piece_of, slots, prefix, statement, join, wants, after_first}
 use Rattle.js_reading.specs.Choices.{branch}
 use Rattle.js_reading.specs.Makes.{build, is_declaration}
-use Rattle.js_reading.specs.Sentences.{leaf_of, least, fits, continues, closes, Dead}
-use Rattle.js_reading.specs.Turns.{place, begun_level, leads, declares, listing, Frame, InForm, InExpression, InStmts, InFile, InItems, Config, Due, Have, Item, Start, Finished, enter, begin_form, begin_leaf, want_by, want, begin_by, begin, texted, take, pass, wanted, banned, take_second, shift, is_name, leave, left, have, item, turn, run, then_run, tree_of}
-use Rattle.js_reading.proofs.Runs.{nowhere, by_bool, by_branch, run_append}
+use Rattle.js_reading.specs.Sentences.{leaf_of, least, fits, continues, closes}
+use Rattle.js_reading.specs.Turns.{place, begun_level, leads, declares, listing, Frame, InForm, InExpression, InStmts, InFile, InItems, Config, Due, Have, Item, Start, Finished, enter, begin_form, begin_leaf, want_by, want, begin_by, begin, texted, take, pass, wanted, banned, take_second, shift, is_name, leave, left, have, item, turn, run, then_run}
+use Rattle.js_reading.proofs.Endless
+use Rattle.js_reading.proofs.Endless.{Endless, LostIn}
+use Rattle.js_reading.proofs.Runs.{nowhere, by_bool, by_branch}
 use Rattle.js_reading.proofs.Ways.{lands}
-use Rattle.js_reading.proofs.Sound.{stepped}
-use Rattle.js_reading.proofs.Reading.{complete}
 
 abbrev pub DoomedForm : Form → List Piece → Type 0
 DoomedForm f ps = (l : Loc) (qs : List Piece) → build f l (ps ++ qs) ≡ None
@@ -158,34 +158,15 @@ turn_doomed (Item fs) d t x h = item_doomed fs t d x h
 turn_doomed Start d t x h = absurd x
 turn_doomed (Finished ss) d t x h = absurd x
 
-run_doomed : (ts : List Token) (c d : Config) → Doomed c → run c ts ≡ Some d → Doomed d
-run_doomed [] c d x h = lands Doomed h x
-run_doomed (t ∷ ts) c d x h = stepped (turn c t) (λ y. run y ts) d (λ y e q. run_doomed ts y d (turn_doomed c y t x e) q) h
+pub doomed_endless : Endless Doomed
+doomed_endless = record { keeps = λ c d t x h. turn_doomed c d t x h; no_end = λ ss x. x }
 
 -- these tokens lead nowhere, or to where no run ends
 abbrev pub Lost : Option Config → Type 0
-Lost None = Unit {0}
-Lost (Some d) = Doomed d
-
-pub none_lost : {o : Option Config} → o ≡ None → Lost o
-none_lost h = subst Lost (sym h) tt
+Lost o = LostIn Doomed o
 
 pub lost_of : (o : Option Config) → ((d : Config) → o ≡ Some d → Doomed d) → Lost o
-lost_of None h = tt
-lost_of (Some d) h = h d refl
+lost_of o h = Endless.lost_of Doomed o h
 
 pub lost_then : (o : Option Config) (ts : List Token) → Lost o → Lost (then_run o (λ d. run d ts))
-lost_then None ts x = tt
-lost_then (Some d) ts x = lost_of (run d ts) (λ c h. run_doomed ts d c x h)
-
--- so no sentence begins with them
-pub lost_dead : (ts : List Token) → Lost (run Start ts) → Dead ts
-lost_dead ts x tree others s = by_run (run Start ts) refl x (sym (ap tree_of (run_append Start ts others)) ∙ complete s)
-  where
-    by_rest : (d : Config) → Doomed d → (o : Option Config) → run d others ≡ o → tree_of o ≡ Some tree → ⊥
-    by_rest d y (Some (Finished ss)) e q = run_doomed others d (Finished ss) y e
-    by_rest d y o e q = absurd cc
-
-    by_run : (o : Option Config) → run Start ts ≡ o → Lost o → tree_of (then_run o (λ d. run d others)) ≡ Some tree → ⊥
-    by_run None e y q = absurd cc
-    by_run (Some d) e y q = by_rest d y (run d others) refl q
+lost_then o ts x = Endless.lost_then Doomed doomed_endless o ts x

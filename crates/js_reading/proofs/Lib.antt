@@ -30,8 +30,17 @@ pub mod Ways
 pub mod Lasting
 pub mod Asking
 pub mod Goals
+pub mod Endless
 pub mod Dooms
 pub mod Protos
 pub mod Targets
 pub mod Quiet
+pub mod Arrows
+pub mod OuterMade
+pub mod OuterKept
 pub mod Refusing
+pub mod Tokens
+pub mod Asked
+pub mod Texts
+pub mod Ended
+pub mod Finishing

@@ -1,4 +1,4 @@
--- No sentence goes on with the tokens that begin a form which is left out, where it stops at them.
+-- No sentence goes on with the tokens that begin a form which is left out: the machine stops at them, or no run from there ends.
 use Rattle.std.proofs.Common.{◌≡◌, inl, append_assoc, append-nil, ℕ, ◌≤◌, Bool, true, false, not, ◌&&◌, List, [], ◌∷◌, ◌++◌, Option, Some, None, codes, refl, sym, ap, subst, ◌∙◌, arith}
 use Rattle.std.specs.Prelude.{nat_le, is_some, ◌||◌}
 use Rattle.std.proofs.lemmas.Bool.{true≢false, and_parts, le-leb}
@@ -17,22 +17,26 @@ use Rattle.js_reading.specs.Slots as slot
 use Rattle.js_reading.specs.Productions.{is_proto_word, string_of, after_first, bound_name, word_piece, name_of, is_mark, is_word, is_class, piece_of, slots, prefix, statement, join}
 use Rattle.js_reading.specs.Makes.{is_proto, build, last_level}
 use Rattle.js_reading.specs.Sentences.{least, continues, Dead}
-use Rattle.js_reading.specs.Turns.{place, begun_level, declares, listing, Frame, InExpression, InItems, Config, Due, Have, Item, Start, begin_form, want_by, want, begin_by, begin, wanted, banned, have, is_over, turn, run, then_run}
+use Rattle.js_reading.specs.Turns.{place, begun_level, declares, listing, Frame, InForm, InExpression, InItems, Config, Due, Have, Item, Start, begin_form, want_by, want, begin_by, begin, wanted, banned, have, is_over, turn, run, then_run}
 use Rattle.js_reading.specs.Unsupported
-use Rattle.js_reading.specs.Unsupported.{Unsupported, Stops, at_property, at_any_name, at_bound_name, at_item, after_tight, operand_over, is_operand, is_template, is_bigint}
+use Rattle.js_reading.specs.Unsupported.{Unsupported, Stops, Begins, at_property, at_any_name, at_bound_name, at_item, after_tight, operand_over, is_operand, is_template, is_bigint}
 use Rattle.js_reading.proofs.Firsts.{remade}
 use Rattle.js_reading.proofs.KindsLemmas.{kind_is}
 use Rattle.js_reading.proofs.Runs.{nowhere, by_bool, run_append}
 use Rattle.js_reading.proofs.Shapes.{closing}
-use Rattle.js_reading.proofs.Rows.{inner_kind, either_of, nameless, sure, tight}
+use Rattle.js_reading.proofs.Rows.{inner_kind, sign_inner, either_of, nameless, sure, tight}
 use Rattle.js_reading.proofs.Ways.{may, FineAt, named, turn_way, come_to, lands}
 use Rattle.js_reading.proofs.Lasting.{last_missing, TightAt, grasp, tight_at, missing_at}
 use Rattle.js_reading.proofs.Asking.{Stray, stray_ways, no_shift, no_sign, piece_option, leads_nowhere}
 use Rattle.js_reading.proofs.Goals.{over_turn, is_led}
-use Rattle.js_reading.proofs.Dooms.{Lost, none_lost, lost_then, lost_dead}
-use Rattle.js_reading.proofs.Quiet.{IsName, Quiet, name_quiet, async_name, function_quiet, name_is_quiet}
+use Rattle.js_reading.proofs.Unique.{dead}
+use Rattle.js_reading.proofs.Endless.{lost_after}
+use Rattle.js_reading.proofs.Dooms.{Doomed, doomed_endless, Lost, lost_then}
+use Rattle.js_reading.proofs.Quiet.{IsName, Quiet, is_each_kind, name_quiet, async_name, function_quiet, name_is_quiet}
+use Rattle.js_reading.proofs.Arrows.{arguments_stop}
+use Rattle.js_reading.proofs.OuterKept.{ShownAt, outer_endless, this_lost}
 use Rattle.js_reading.proofs.Protos.{part, no_object}
-use Rattle.js_reading.proofs.Targets.{parenthesized_facts, literal_facts, assigned_lost, updated_lost, head_lost, assign_assigns}
+use Rattle.js_reading.proofs.Targets.{parenthesized_facts, literal_facts, assigned_lost, updated_stops, head_lost, assign_assigns}
 
 -- ---- no run goes on
 
@@ -49,6 +53,13 @@ second_stops c t u ts h = by_turn (turn c t) h
     by_turn : (o : Option Config) → ((d : Config) → o ≡ Some d → turn d u ≡ None) → then_run o (λ d. run d (u ∷ ts)) ≡ None
     by_turn None g = refl
     by_turn (Some d) g = first_stops d u ts (g d refl)
+
+third_stops : (c : Config) (t u v : Token) (ts : List Token) → ((d : Config) → turn c t ≡ Some d → (e : Config) → turn d u ≡ Some e → turn e v ≡ None) → run c (t ∷ u ∷ v ∷ ts) ≡ None
+third_stops c t u v ts h = by_turn (turn c t) h
+  where
+    by_turn : (o : Option Config) → ((d : Config) → o ≡ Some d → (e : Config) → turn d u ≡ Some e → turn e v ≡ None) → then_run o (λ d. run d (u ∷ v ∷ ts)) ≡ None
+    by_turn None g = refl
+    by_turn (Some d) g = second_stops d u v ts (g d refl)
 
 -- ---- tokens that stand nowhere but as a name
 
@@ -177,7 +188,7 @@ opening_turn {Q = Q} t o wants_ begins_ c fine unnamed d h =
     turn_way {Q = Q} c d (record {
       by_want = λ fs d fr k. wants_ fs d k;
       by_begin = λ fs d fr k. begins_ fs d k;
-      by_sign = λ k f w ss ps fs is e fin fr. no_sign t k o.no_inner is e;
+      by_sign = λ k f w ss ps fs is e fin fr. no_sign t k o.no_inner (sign_inner k is) e;
       by_text = λ k p f w ss ps fs e m x fin fr. no_text k p ss e m;
       by_comma = λ fs e fr. no_sign t (T.Punctuator P.Comma) o.no_inner refl e;
       by_end = λ ss e. no_sign t T.End o.no_inner refl e;
@@ -397,59 +408,81 @@ proto_lost t colon w l ss ps fs ts is is_colon = by_kind t.kind refl is
 
 async_function_stops : (t word : Token) (c : Config) (ts : List Token) → FineAt c → at_any_name c ≡ false → t.kind ≡ Word (codes "async") → word.kind ≡ Word (codes "function") → word.line_terminator_before ≡ false → run c (t ∷ word ∷ ts) ≡ None
 async_function_stops t word c ts fine unnamed is is_function line =
-    second_stops c t word ts (λ d h. name_quiet t word (of_kind IsName t (Word (codes "async")) is (async_name t)) (of_kind Quiet word (Word (codes "function")) is_function (function_quiet word line)) c fine (no_named c fine unnamed) d h)
+    second_stops c t word ts (λ d h. none_of (turn d word) (λ e k. name_quiet (λ x. ⊥) t word (of_kind IsName t (Word (codes "async")) is (async_name t)) q.0 (λ f w n ss ps fs each_. true≢false (sym each_ ∙ q.1)) c fine (no_named c fine unnamed) d h e k))
+  where
+    q : Quiet word × (is_each_kind word.kind ≡ false)
+    q = of_kind (λ s. Quiet s × (is_each_kind s.kind ≡ false)) word (Word (codes "function")) is_function (function_quiet word line)
 
-async_name_stops : (t name : Token) (c : Config) (ts : List Token) → FineAt c → at_any_name c ≡ false → t.kind ≡ Word (codes "async") → is_class BoundName name ≡ true → (is_word (codes "let") name || is_word (codes "of") name) ≡ false → name.line_terminator_before ≡ false → run c (t ∷ name ∷ ts) ≡ None
-async_name_stops t name c ts fine unnamed is named_ other line =
-    second_stops c t name ts (λ d h. name_quiet t name (of_kind IsName t (Word (codes "async")) is (async_name t))
-    (name_is_quiet name (bound (bound_name name.kind) named_) (one (is_word (codes "let") name) (is_word (codes "of") name) other) (two (is_word (codes "let") name) (is_word (codes "of") name) other) line) c fine (no_named c fine unnamed) d h)
+no_arrow_due : (arrow : Token) → arrow.kind ≡ T.Punctuator P.Arrow → (fs : List Frame) → want arrow fs ≡ None
+no_arrow_due arrow is fs = of_kind (λ s. want s fs ≡ None) arrow (T.Punctuator P.Arrow) is refl
+
+async_name_stops : (t name arrow : Token) (c : Config) (ts : List Token) → FineAt c → at_any_name c ≡ false → t.kind ≡ Word (codes "async") → is_class BoundName name ≡ true → name.line_terminator_before ≡ false → arrow.kind ≡ T.Punctuator P.Arrow → run c (t ∷ name ∷ arrow ∷ ts) ≡ None
+async_name_stops t name arrow c ts fine unnamed is named_ line is_arrow =
+    third_stops c t name arrow ts (λ d h e k. name_quiet (λ x. turn x arrow ≡ None) t name (of_kind IsName t (Word (codes "async")) is (async_name t)) (name_is_quiet name (bound (bound_name name.kind) named_) line)
+    (λ f w n ss ps fs each_. no_arrow_due arrow is_arrow (InForm f w (Expr_ n) ss ps ∷ fs)) c fine (no_named c fine unnamed) d h e k)
   where
     bound : (o : Option (List ℕ)) → is_some (word_piece name.loc o) ≡ true → is_some o ≡ true
     bound None h = h
     bound (Some w) h = refl
 
-    one : (x y : Bool) → (x || y) ≡ false → x ≡ false
-    one false y h = refl
-    one true y h = h
+-- ---- `this` that is no name: an expression begins
 
-    two : (x y : Bool) → (x || y) ≡ false → y ≡ false
-    two false y h = h
-    two true y h = absurd (true≢false h)
+this_opening : (t : Token) → (statement (remade t (Word (codes "this"))) ≡ None) × Opening (remade t (Word (codes "this")))
+unfolding is_keyword reserved_word
+this_opening t = (refl, record { no_inner = refl; no_name = refl; no_first = refl; no_later = refl; no_join = refl })
+
+pub this_begins : (ts : List Token) (t : Token) (c d : Config) → run Start ts ≡ Some c → is_word (codes "this") t ≡ true → at_any_name c ≡ false → turn c t ≡ Some d → (fs : List Frame) × (turn c t ≡ want t fs)
+this_begins ts t c d ran is unnamed h =
+    let found = opening_turn {Q = Wanted_} t o.1 (λ fs x k. (fs, k)) (λ fs x k. (InExpression t.loc ∷ fs, sym (ap (λ y. begin_by y t fs) o.0) ∙ k)) c (come_to ts c ran) unnamed d h in
+    (found.0, h ∙ sym found.1)
+  where
+    Wanted_ : Config → Type 0
+    Wanted_ x = (fs : List Frame) × (want t fs ≡ Some x)
+
+    o : (statement t ≡ None) × Opening t
+    o = of_kind (λ s. (statement s ≡ None) × Opening s) t (Word (codes "this")) (word_is (codes "this") t is) (this_opening t)
 
 -- ---- all of them
 
-stops_there : (u : Unsupported) (c : Config) (us : List Token) → FineAt c → Stops u c us → Lost (run c us)
-stops_there u c us fine (Unsupported.class {t = t} {ts = ts} is unnamed) = none_lost (stranger_stops t (of_kind Stranger t (Word (codes "class")) (word_is (codes "class") t is) (word_class t)) c ts fine unnamed)
-stops_there u c us fine (Unsupported.super {t = t} {ts = ts} is unnamed) = none_lost (stranger_stops t (of_kind Stranger t (Word (codes "super")) (word_is (codes "super") t is) (word_super t)) c ts fine unnamed)
-stops_there u c us fine (Unsupported.import_ {t = t} {ts = ts} is unnamed) = none_lost (stranger_stops t (of_kind Stranger t (Word (codes "import")) (word_is (codes "import") t is) (word_import t)) c ts fine unnamed)
-stops_there u c us fine (Unsupported.export {t = t} {ts = ts} is unnamed) = none_lost (stranger_stops t (of_kind Stranger t (Word (codes "export")) (word_is (codes "export") t is) (word_export t)) c ts fine unnamed)
-stops_there u c us fine (Unsupported.new_target {t = t} {dot = dot} {ts = ts} is unnamed is_dot) = none_lost (new_target_stops t dot c ts fine unnamed (word_is (codes "new") t is) (mark_is P.Dot dot is_dot))
-stops_there u c us fine (Unsupported.spread {t = t} {ts = ts} is) = none_lost (odd_stops P.Ellipsis t c ts fine refl is)
-stops_there u c us fine (Unsupported.optional_chain {t = t} {ts = ts} is) = none_lost (odd_stops P.OptionalChain t c ts fine refl is)
+-- it stops at one of these tokens
+stops_there : (u : Unsupported) (c : Config) (us : List Token) → FineAt c → Stops u c us → run c us ≡ None
+stops_there u c us fine (Unsupported.class {t = t} {ts = ts} is unnamed) = stranger_stops t (of_kind Stranger t (Word (codes "class")) (word_is (codes "class") t is) (word_class t)) c ts fine unnamed
+stops_there u c us fine (Unsupported.super {t = t} {ts = ts} is unnamed) = stranger_stops t (of_kind Stranger t (Word (codes "super")) (word_is (codes "super") t is) (word_super t)) c ts fine unnamed
+stops_there u c us fine (Unsupported.import_ {t = t} {ts = ts} is unnamed) = stranger_stops t (of_kind Stranger t (Word (codes "import")) (word_is (codes "import") t is) (word_import t)) c ts fine unnamed
+stops_there u c us fine (Unsupported.export {t = t} {ts = ts} is unnamed) = stranger_stops t (of_kind Stranger t (Word (codes "export")) (word_is (codes "export") t is) (word_export t)) c ts fine unnamed
+stops_there u c us fine (Unsupported.new_target {t = t} {dot = dot} {ts = ts} is unnamed is_dot) = new_target_stops t dot c ts fine unnamed (word_is (codes "new") t is) (mark_is P.Dot dot is_dot)
+stops_there u c us fine (Unsupported.spread {t = t} {ts = ts} is) = odd_stops P.Ellipsis t c ts fine refl is
+stops_there u c us fine (Unsupported.optional_chain {t = t} {ts = ts} is) = odd_stops P.OptionalChain t c ts fine refl is
 stops_there u c us fine (Unsupported.logical_assignment {t = t} {ts = ts} is) =
-    none_lost (three (is_mark P.LogicalAndAssign t) (is_mark P.LogicalOrAssign t) (is_mark P.CoalesceAssign t) is (λ q. odd_stops P.LogicalAndAssign t c ts fine refl q) (λ q. odd_stops P.LogicalOrAssign t c ts fine refl q) (λ q. odd_stops P.CoalesceAssign t c ts fine refl q))
-stops_there u c us fine (Unsupported.async_function {t = t} {word = word} {ts = ts} is unnamed is_word_ line) = none_lost (async_function_stops t word c ts fine unnamed (word_is (codes "async") t is) (word_is (codes "function") word is_word_) line)
-stops_there u c us fine (Unsupported.async_name {t = t} {ts = ts} name arrow is unnamed named_ other line is_arrow) = none_lost (async_name_stops t name c (arrow ∷ ts) fine unnamed (word_is (codes "async") t is) named_ other line)
-stops_there u c us fine (Unsupported.async_method {t = t} {key = key} {ts = ts} is at key_is line) = none_lost (word_key_stops t key (codes "async") c ts (word_is (codes "async") t is) at key_is)
-stops_there u c us fine (Unsupported.generator {t = t} {star = star} {ts = ts} is unnamed is_star) = none_lost (generator_stops t star c ts fine unnamed (word_is (codes "function") t is) (mark_is P.Star star is_star))
-stops_there u c us fine (Unsupported.generator_method {t = t} {ts = ts} is at) = none_lost (star_stops t c ts (mark_is P.Star t is) at)
+    three (is_mark P.LogicalAndAssign t) (is_mark P.LogicalOrAssign t) (is_mark P.CoalesceAssign t) is (λ q. odd_stops P.LogicalAndAssign t c ts fine refl q) (λ q. odd_stops P.LogicalOrAssign t c ts fine refl q) (λ q. odd_stops P.CoalesceAssign t c ts fine refl q)
+stops_there u c us fine (Unsupported.async_function {t = t} {word = word} {ts = ts} is unnamed is_word_ line) = async_function_stops t word c ts fine unnamed (word_is (codes "async") t is) (word_is (codes "function") word is_word_) line
+stops_there u c us fine (Unsupported.async_name {t = t} {ts = ts} name arrow is unnamed named_ line is_arrow) = async_name_stops t name arrow c ts fine unnamed (word_is (codes "async") t is) named_ line (mark_is P.Arrow arrow is_arrow)
+stops_there u c us fine (Unsupported.async_arguments {t = t} f fs opening closing_ arrow ts begins is is_opening line dxs is_closing is_arrow) =
+    arguments_stop t opening closing_ arrow c f fs ts fine begins (word_is (codes "async") t is) (mark_is P.OpenParenthesis opening is_opening) dxs (mark_is P.CloseParenthesis closing_ is_closing) (mark_is P.Arrow arrow is_arrow)
+stops_there u c us fine (Unsupported.async_method {t = t} {key = key} {ts = ts} is at key_is line) = word_key_stops t key (codes "async") c ts (word_is (codes "async") t is) at key_is
+stops_there u c us fine (Unsupported.generator {t = t} {star = star} {ts = ts} is unnamed is_star) = generator_stops t star c ts fine unnamed (word_is (codes "function") t is) (mark_is P.Star star is_star)
+stops_there u c us fine (Unsupported.generator_method {t = t} {ts = ts} is at) = star_stops t c ts (mark_is P.Star t is) at
 stops_there u c us fine (Unsupported.accessor {t = t} {key = key} {ts = ts} is at key_is) =
-    none_lost (either_of (is_word (codes "get") t) (is_word (codes "set") t) is (λ q. word_key_stops t key (codes "get") c ts (word_is (codes "get") t q) at key_is) (λ q. word_key_stops t key (codes "set") c ts (word_is (codes "set") t q) at key_is))
-stops_there u c us fine (Unsupported.bigint {t = t} {ts = ts} is) = none_lost (bigint_stops t c ts fine is)
-stops_there u c us fine (Unsupported.elision {t = t} {ts = ts} is at) = none_lost (elision_stops t c ts fine (mark_is P.Comma t is) at)
-stops_there u c us fine (Unsupported.proto {t = t} {colon = colon} {w = w} {l = l} {ss = ss} {ps = ps} {fs = fs} {ts = ts} is is_colon) = proto_lost t colon w l ss ps fs ts is (mark_is P.Colon colon is_colon)
-stops_there u c us fine (Unsupported.tagged_template {t = t} {ts = ts} is at) = none_lost (template_stops t c ts fine is at)
+    either_of (is_word (codes "get") t) (is_word (codes "set") t) is (λ q. word_key_stops t key (codes "get") c ts (word_is (codes "get") t q) at key_is) (λ q. word_key_stops t key (codes "set") c ts (word_is (codes "set") t q) at key_is)
+stops_there u c us fine (Unsupported.bigint {t = t} {ts = ts} is) = bigint_stops t c ts fine is
+stops_there u c us fine (Unsupported.elision {t = t} {ts = ts} is at) = elision_stops t c ts fine (mark_is P.Comma t is) at
+stops_there u c us fine (Unsupported.tagged_template {t = t} {ts = ts} is at) = template_stops t c ts fine is at
 stops_there u c us fine (Unsupported.binding {t = t} {ts = ts} is at) =
-    none_lost (either_of (is_mark P.OpenBracket t) (is_mark P.OpenBrace t) is
+    either_of (is_mark P.OpenBracket t) (is_mark P.OpenBrace t) is
     (λ q. binding_stops t c ts at (λ f w ss ps l fs. of_kind (λ s. (turn (Due f w (Text BoundName ∷ ss) ps l fs) s ≡ None) × (turn (Due f w (By slot.Parameters ∷ ss) ps l fs) s ≡ None)) t (T.Punctuator P.OpenBracket) (mark_is P.OpenBracket t q) (refl, refl)))
-    (λ q. binding_stops t c ts at (λ f w ss ps l fs. of_kind (λ s. (turn (Due f w (Text BoundName ∷ ss) ps l fs) s ≡ None) × (turn (Due f w (By slot.Parameters ∷ ss) ps l fs) s ≡ None)) t (T.Punctuator P.OpenBrace) (mark_is P.OpenBrace t q) (refl, refl))))
-stops_there u c us fine (Unsupported.shorthand {t = t} {sign = sign} {ts = ts} name at is) = none_lost (shorthand_stops t sign c ts name at (mark_is P.Assign sign is))
-stops_there u c us fine (Unsupported.target_before {i = i} {e = e} {l = l} {t = t} {te = te} f fs sign ts begins fit de is assigned go) = let a = parenthesized_facts e is in assigned_lost c i e l t te f fs sign ts begins fit de a.0 a.1 assigned go
-stops_there u c us fine (Unsupported.target_after {i = i} {e = e} {o = o} {w = w} {l = l} {m = m} {n = n} {fs = fs} {t = t} {te = te} next ts fit de is go) = let a = parenthesized_facts e is in updated_lost i e o w l m n fs t te next ts fit de a.0 a.1 go
-stops_there u c us fine (Unsupported.target_in_head {i = i} {e = e} {w = w} {l = l} {m = m} {fs = fs} {t = t} {te = te} word ts begins fit de is each_) = let a = parenthesized_facts e is in head_lost i e w l m fs t te word ts begins fit de a.0 a.1 each_
-stops_there u c us fine (Unsupported.literal {i = i} {e = e} {l = l} {t = t} {te = te} f fs sign ts begins fit de is assigned go) = let a = literal_facts e is in assigned_lost c i e l t te f fs sign ts begins fit de a.0 a.1 (assign_assigns sign assigned) go
-stops_there u c us fine (Unsupported.literal_in_head {i = i} {e = e} {w = w} {l = l} {m = m} {fs = fs} {t = t} {te = te} word ts begins fit de is each_) = let a = literal_facts e is in head_lost i e w l m fs t te word ts begins fit de a.0 a.1 each_
+    (λ q. binding_stops t c ts at (λ f w ss ps l fs. of_kind (λ s. (turn (Due f w (Text BoundName ∷ ss) ps l fs) s ≡ None) × (turn (Due f w (By slot.Parameters ∷ ss) ps l fs) s ≡ None)) t (T.Punctuator P.OpenBrace) (mark_is P.OpenBrace t q) (refl, refl)))
+stops_there u c us fine (Unsupported.shorthand {t = t} {sign = sign} {ts = ts} name at is) = shorthand_stops t sign c ts name at (mark_is P.Assign sign is)
+stops_there u c us fine (Unsupported.target_after {i = i} {e = e} {o = o} {w = w} {l = l} {m = m} {n = n} {fs = fs} {t = t} {te = te} next ts fit de is go) = let a = parenthesized_facts e is in updated_stops i e o w l m n fs t te next ts fit de a.0 a.1 go
 
--- no sentence goes on with them
-pub stops_dead : (u : Unsupported) (ts us : List Token) (c : Config) → run Start ts ≡ Some c → Stops u c us → Dead (ts ++ us)
-stops_dead u ts us c h s = lost_dead (ts ++ us) (subst Lost (sym (run_append Start ts us ∙ ap (λ o. then_run o (λ d. run d us)) h)) (stops_there u c us (come_to ts c h) s))
+pub stops_run : (u : Unsupported) (ts us : List Token) (c : Config) → run Start ts ≡ Some c → Stops u c us → run c us ≡ None
+stops_run u ts us c h s = stops_there u c us (come_to ts c h) s
+
+-- no sentence goes on with any
+pub begins_dead : (u : Unsupported) (ts us : List Token) (c : Config) → run Start ts ≡ Some c → Begins u c us → Dead (ts ++ us)
+begins_dead u vs us c h (Unsupported.at_once s) = dead (vs ++ us) (run_append Start vs us ∙ ap (λ o. then_run o (λ d. run d us)) h ∙ stops_run u vs us c h s)
+begins_dead u vs us c h (Unsupported.proto {t = t} {colon = colon} {w = w} {l = l} {ss = ss} {ps = ps} {fs = fs} {ts = ts} is is_colon) = lost_after Doomed doomed_endless vs us c h (proto_lost t colon w l ss ps fs ts is (mark_is P.Colon colon is_colon))
+begins_dead u vs us c h (Unsupported.target_before {i = i} {e = e} {l = l} {t = t} {te = te} f fs sign ts begins fit de is assigned go) = let a = parenthesized_facts e is in lost_after Doomed doomed_endless vs us c h (assigned_lost c i e l t te f fs sign ts begins fit de a.0 a.1 assigned go)
+begins_dead u vs us c h (Unsupported.target_in_head {i = i} {e = e} {w = w} {l = l} {m = m} {fs = fs} {t = t} {te = te} word ts begins fit de is each_) = let a = parenthesized_facts e is in lost_after Doomed doomed_endless vs us c h (head_lost i e w l m fs t te word ts begins fit de a.0 a.1 each_)
+begins_dead u vs us c h (Unsupported.literal {i = i} {e = e} {l = l} {t = t} {te = te} f fs sign ts begins fit de is assigned go) = let a = literal_facts e is in lost_after Doomed doomed_endless vs us c h (assigned_lost c i e l t te f fs sign ts begins fit de a.0 a.1 (assign_assigns sign assigned) go)
+begins_dead u vs us c h (Unsupported.literal_in_head {i = i} {e = e} {w = w} {l = l} {m = m} {fs = fs} {t = t} {te = te} word ts begins fit de is each_) = let a = literal_facts e is in lost_after Doomed doomed_endless vs us c h (head_lost i e w l m fs t te word ts begins fit de a.0 a.1 each_)
+begins_dead u vs us c h (Unsupported.this_outside {t = t} {ts = us_} fs begins is n) = lost_after ShownAt outer_endless vs us c h (this_lost t us_ c fs begins (word_is (codes "this") t is) n)

@@ -1,15 +1,15 @@
 -- What may be left of a production, at a place that the machine comes to: which slots, and how an expression's production ends.
 use Rattle.std.proofs.Common.{◌≡◌, ℕ, Bool, true, false, not, ◌&&◌, List, [], ◌∷◌, ◌++◌, Some, codes, refl, sym, ap, subst, ◌∙◌}
-use Rattle.std.specs.Prelude.{◌||◌}
+use Rattle.std.specs.Prelude.{nat_le, ◌||◌}
 use Rattle.std.specs.Str.{bytes_eq}
 use Rattle.std.proofs.lemmas.Bool.{true≢false, and_parts}
 use Rattle.js_text.specs.Token.{Token, Kind, Word, End}
 use Rattle.js_text.specs.Token as T
 use Rattle.js_text.specs.declared.punctuator.Punctuator.{Punctuator}
 use Rattle.js_text.specs.declared.punctuator.Punctuator.TheVariants as P
-use Rattle.js_reading.specs.Slots.{Wanted, Level, Callee, Slot, Sign, Text, Expr_, Stmt_, Stmts_, Items_, Place_, By, Piece, Branch, Refuse, Pass, Go, Form, Choice, Class, BoundName, AnyName, Key, FirstText, LaterText}
+use Rattle.js_reading.specs.Slots.{Wanted, Level, WithoutIn, Callee, Slot, Sign, Text, Expr_, Stmt_, Stmts_, Items_, Place_, By, Piece, Branch, Refuse, Pass, Go, Form, Choice, Class, BoundName, AnyName, Key, FirstText, LaterText}
 use Rattle.js_reading.specs.Slots as slot
-use Rattle.js_reading.specs.Productions.{slots, prefix, prefixes, statement, statements, join, joins, as_it_is, after_first}
+use Rattle.js_reading.specs.Productions.{call, slots, prefix, prefixes, statement, statements, join, joins, as_it_is, after_first}
 use Rattle.js_reading.specs.Choices.{branch}
 use Rattle.js_reading.proofs.Branches.{branches, each, among}
 use Rattle.js_reading.proofs.Shapes.{closing, find_all, join_found, both_true}
@@ -36,12 +36,23 @@ inner_mark P.Assign = true
 inner_mark P.Arrow = true
 inner_mark p = false
 
--- the token of a slot that isn't the first of its production, or the sign of one
+-- the token of a slot that isn't the first of its production
+abbrev pub sign_kind : Kind → Bool
+sign_kind (Word w) = inner_word w
+sign_kind (T.Punctuator p) = inner_mark p
+sign_kind k = false
+
+-- or the end
 abbrev pub inner_kind : Kind → Bool
 inner_kind (Word w) = inner_word w
 inner_kind (T.Punctuator p) = inner_mark p
 inner_kind End = true
 inner_kind k = false
+
+pub sign_inner : (k : Kind) → sign_kind k ≡ true → inner_kind k ≡ true
+sign_inner (Word w) h = h
+sign_inner (T.Punctuator p) h = h
+sign_inner k h = absurd (true≢false (sym h))
 
 -- ---- names stand first, or behind a token, and a template's next part behind an expression
 
@@ -65,7 +76,7 @@ later_next ss = false
 
 abbrev pub sure : List Slot → Bool
 sure [] = true
-sure (Sign k ∷ ss) = inner_kind k && (not (later_next ss) && sure ss)
+sure (Sign k ∷ ss) = sign_kind k && (not (later_next ss) && sure ss)
 sure (Items_ p ∷ ss) = closing p && (nameless ss && sure ss)
 sure (Expr_ w ∷ ss) = (nameless ss || is_rest ss) && sure ss
 sure (s ∷ ss) = nameless ss && sure ss
@@ -121,7 +132,7 @@ later_append (r ∷ rs) ss h n = refl
 pub sure_append : (rs ss : List Slot) → sure rs ≡ true → nameless ss ≡ true → sure ss ≡ true → sure (rs ++ ss) ≡ true
 sure_append [] ss h n k = k
 sure_append (Sign j ∷ rs) ss h n k =
-    let a = and_parts (inner_kind j) (not (later_next rs) && sure rs) h in let b = and_parts (not (later_next rs)) (sure rs) a.1 in both_true a.0 (both_true (later_append rs ss b.0 n) (sure_append rs ss b.1 n k))
+    let a = and_parts (sign_kind j) (not (later_next rs) && sure rs) h in let b = and_parts (not (later_next rs)) (sure rs) a.1 in both_true a.0 (both_true (later_append rs ss b.0 n) (sure_append rs ss b.1 n k))
 sure_append (Items_ p ∷ rs) ss h n k =
     let a = and_parts (closing p) (nameless rs && sure rs) h in let b = and_parts (nameless rs) (sure rs) a.1 in both_true a.0 (both_true (nameless_append rs ss b.0 n) (sure_append rs ss b.1 n k))
 sure_append (Expr_ w ∷ rs) ss h n k =
@@ -133,7 +144,7 @@ pub sure_chosen : (c : Choice) (t : Token) (qs : List Piece) (s : Slot) (rs ss :
 sure_chosen c t qs s rs ss h n k = sure_append (s ∷ rs) ss (subst (λ b. sure_branch b ≡ true) h (among c t sure_branch (sure_branches c))) n k
 
 pub sure_rest : (s : Slot) (ss : List Slot) → sure (s ∷ ss) ≡ true → sure ss ≡ true
-sure_rest (Sign k) ss h = (and_parts (not (later_next ss)) (sure ss) (and_parts (inner_kind k) (not (later_next ss) && sure ss) h).1).1
+sure_rest (Sign k) ss h = (and_parts (not (later_next ss)) (sure ss) (and_parts (sign_kind k) (not (later_next ss) && sure ss) h).1).1
 sure_rest (Items_ p) ss h = (and_parts (nameless ss) (sure ss) (and_parts (closing p) (nameless ss && sure ss) h).1).1
 sure_rest (Expr_ w) ss h = (and_parts (nameless ss || is_rest ss) (sure ss) h).1
 sure_rest s ss h = (and_parts (nameless ss) (sure ss) h).1
@@ -149,7 +160,7 @@ is_token (Items_ p) = true
 is_token s = false
 
 pub due_rest : (s : Slot) (ss : List Slot) → is_token s ≡ true → sure (s ∷ ss) ≡ true → sure_due ss ≡ true
-due_rest (Sign k) ss is h = (and_parts (inner_kind k) (not (later_next ss) && sure ss) h).1
+due_rest (Sign k) ss is h = (and_parts (sign_kind k) (not (later_next ss) && sure ss) h).1
 due_rest (Text c) ss is h = let a = and_parts (nameless ss) (sure ss) h in both_true (none_later ss a.0) a.1
 due_rest (Items_ p) ss is h = let a = and_parts (nameless ss) (sure ss) (and_parts (closing p) (nameless ss && sure ss) h).1 in both_true (none_later ss a.0) a.1
 due_rest s ss is h = absurd (true≢false (sym is))
@@ -310,9 +321,15 @@ ready slot.FunctionName = false
 ready slot.AfterKey = false
 ready c = true
 
+-- a mark, and no arrow
+abbrev pub plain_sign : Kind → Bool
+plain_sign (T.Punctuator P.Arrow) = false
+plain_sign (T.Punctuator p) = true
+plain_sign k = false
+
 abbrev pub calm : Bool → List Slot → Bool
 calm b [] = b
-calm b (Sign k ∷ ss) = true
+calm b (Sign k ∷ ss) = plain_sign k
 calm b (Place_ ∷ ss) = calm b ss
 calm b (By c ∷ ss) = settles c || (steady c && calm b ss)
 calm b ss = false
@@ -326,7 +343,7 @@ follows b (s ∷ ss) = follows b ss
 
 calm_append : (b x : Bool) (rs ss : List Slot) → (b ≡ true → calm x ss ≡ true) → calm b rs ≡ true → calm x (rs ++ ss) ≡ true
 calm_append b x [] ss h k = h k
-calm_append b x (Sign j ∷ rs) ss h k = refl
+calm_append b x (Sign j ∷ rs) ss h k = k
 calm_append b x (Place_ ∷ rs) ss h k = calm_append b x rs ss h k
 calm_append b x (By c ∷ rs) ss h k =
     either_of (settles c) (steady c && calm b rs) k (λ q. or_one (settles c) (steady c && calm x (rs ++ ss)) q)
@@ -374,28 +391,100 @@ follows_rest x (Text c) ss h = follows_text x c ss h
 follows_rest x (By c) ss h = (and_parts (ready c || calm x ss) (follows x ss) h).1
 follows_rest x s ss h = h
 
+-- ---- no arrow stands behind a part: `=>` is taken where it is chosen, behind parentheses
+
+abbrev pub is_arrow : Kind → Bool
+is_arrow (T.Punctuator P.Arrow) = true
+is_arrow k = false
+
+abbrev pub is_arrow_choice : Choice → Bool
+is_arrow_choice slot.Arrow = true
+is_arrow_choice c = false
+
+-- none before the next slot that takes a token
+abbrev pub arrowless : List Slot → Bool
+arrowless [] = true
+arrowless (Place_ ∷ ss) = arrowless ss
+arrowless (Stmts_ ∷ ss) = arrowless ss
+arrowless (By c ∷ ss) = not (is_arrow_choice c) && arrowless ss
+arrowless (Sign k ∷ ss) = not (is_arrow k)
+arrowless (Items_ p ∷ ss) = not (is_arrow (T.Punctuator p))
+arrowless (s ∷ ss) = true
+
+-- an argument list goes on with the expression, or stands behind the callee
+abbrev pub open_to : Wanted → List Slot → Bool
+open_to (Level n) ss = nat_le n call
+open_to (WithoutIn n) ss = nat_le n call
+open_to Callee (By slot.Arguments ∷ ss) = true
+open_to Callee ss = false
+
+abbrev pub tame : List Slot → Bool
+tame [] = true
+tame (Expr_ w ∷ ss) = open_to w ss && (arrowless ss && tame ss)
+tame (s ∷ ss) = (is_token s || arrowless ss) && tame ss
+
+arrowless_append : (rs ss : List Slot) → arrowless rs ≡ true → arrowless ss ≡ true → arrowless (rs ++ ss) ≡ true
+arrowless_append [] ss h k = k
+arrowless_append (Place_ ∷ rs) ss h k = arrowless_append rs ss h k
+arrowless_append (Stmts_ ∷ rs) ss h k = arrowless_append rs ss h k
+arrowless_append (By c ∷ rs) ss h k = let a = and_parts (not (is_arrow_choice c)) (arrowless rs) h in both_true a.0 (arrowless_append rs ss a.1 k)
+arrowless_append (Sign j ∷ rs) ss h k = h
+arrowless_append (Items_ p ∷ rs) ss h k = h
+arrowless_append (r ∷ rs) ss h k = refl
+
+open_append : (w : Wanted) (rs ss : List Slot) → open_to w rs ≡ true → open_to w (rs ++ ss) ≡ true
+open_append (Level n) rs ss h = h
+open_append (WithoutIn n) rs ss h = h
+open_append Callee (By slot.Arguments ∷ rs) ss h = refl
+open_append Callee rs ss h = absurd (true≢false (sym h))
+
+tame_append : (rs ss : List Slot) → tame rs ≡ true → arrowless ss ≡ true → tame ss ≡ true → tame (rs ++ ss) ≡ true
+tame_append [] ss h n k = k
+tame_append (Expr_ w ∷ rs) ss h n k =
+    let a = and_parts (open_to w rs) (arrowless rs && tame rs) h in let b = and_parts (arrowless rs) (tame rs) a.1 in
+    both_true (open_append w rs ss a.0) (both_true (arrowless_append rs ss b.0 n) (tame_append rs ss b.1 n k))
+tame_append (r ∷ rs) ss h n k =
+    let a = and_parts (is_token r || arrowless rs) (tame rs) h in
+    both_true (either_of (is_token r) (arrowless rs) a.0 (λ q. or_one (is_token r) (arrowless (rs ++ ss)) q) (λ q. or_two (is_token r) (arrowless (rs ++ ss)) (arrowless_append rs ss q n))) (tame_append rs ss a.1 n k)
+
+abbrev pub tame_branch : Branch → Bool
+tame_branch (Go qs s rs) = tame (s ∷ rs)
+tame_branch x = true
+
+tame_branches : (c : Choice) → each tame_branch (branches c) ≡ true
+tame_branches slot.Semicolon = refl
+tame_branches c = refl
+
+pub tame_chosen : (c : Choice) (t : Token) (qs : List Piece) (s : Slot) (rs ss : List Slot) → branch c t ≡ Go qs s rs → tame (By c ∷ ss) ≡ true → tame (s ∷ (rs ++ ss)) ≡ true
+tame_chosen c t qs s rs ss h k = let a = and_parts (arrowless ss) (tame ss) k in tame_append (s ∷ rs) ss (subst (λ b. tame_branch b ≡ true) h (among c t tame_branch (tame_branches c))) a.0 a.1
+
+pub tame_rest : (s : Slot) (ss : List Slot) → tame (s ∷ ss) ≡ true → tame ss ≡ true
+tame_rest (Expr_ w) ss h = (and_parts (arrowless ss) (tame ss) (and_parts (open_to w ss) (arrowless ss && tame ss) h).1).1
+tame_rest s ss h = (and_parts (is_token s || arrowless ss) (tame ss) h).1
+
 -- ---- what may be left of a production, and after a token
 
 abbrev pub Fine : Form → List Slot → Type 0
-Fine f ss = (sure ss ≡ true) × (makes f ≡ true → well f ss ≡ true) × (follows (makes f) ss ≡ true)
+Fine f ss = (sure ss ≡ true) × (makes f ≡ true → well f ss ≡ true) × (follows (makes f) ss ≡ true) × (tame ss ≡ true)
 
 abbrev pub DueFine : Form → List Slot → Type 0
-DueFine f ss = (sure_due ss ≡ true) × (makes f ≡ true → due_well f ss ≡ true) × (follows (makes f) ss ≡ true)
+DueFine f ss = (sure_due ss ≡ true) × (makes f ≡ true → due_well f ss ≡ true) × (follows (makes f) ss ≡ true) × (tame ss ≡ true)
 
 pub fine_due : (f : Form) (ss : List Slot) → DueFine f ss → Fine f ss
-fine_due f ss h = ((and_parts (not (later_next ss)) (sure ss) h.0).1, λ m. (and_parts (held ss || over f ss) (well f ss) (h.1 m)).1, h.2)
+fine_due f ss h = ((and_parts (not (later_next ss)) (sure ss) h.0).1, λ m. (and_parts (held ss || over f ss) (well f ss) (h.1 m)).1, h.2, h.3)
 
 abbrev pub after_second : List Slot → List Slot
 after_second ss = after_first (after_first ss)
 
 abbrev pub row_fine : Form → List Slot → Bool
-row_fine g ss = sure_due ss && ((not (makes g) || due_well g ss) && follows (makes g) ss)
+row_fine g ss = sure_due ss && ((not (makes g) || due_well g ss) && (follows (makes g) ss && tame ss))
 
 of_row : (g : Form) (ss : List Slot) → row_fine g ss ≡ true → DueFine g ss
 of_row g ss h =
-    let a = and_parts (sure_due ss) ((not (makes g) || due_well g ss) && follows (makes g) ss) h in
-    let b = and_parts (not (makes g) || due_well g ss) (follows (makes g) ss) a.1 in
-    (a.0, λ m. either_of (not (makes g)) (due_well g ss) b.0 (λ q. absurd (true≢false (sym q ∙ ap not m))) (λ q. q), b.1)
+    let a = and_parts (sure_due ss) ((not (makes g) || due_well g ss) && (follows (makes g) ss && tame ss)) h in
+    let b = and_parts (not (makes g) || due_well g ss) (follows (makes g) ss && tame ss) a.1 in
+    let c = and_parts (follows (makes g) ss) (tame ss) b.1 in
+    (a.0, λ m. either_of (not (makes g)) (due_well g ss) b.0 (λ q. absurd (true≢false (sym q ∙ ap not m))) (λ q. q), c.0, c.1)
 
 pub prefix_fine : (t : Token) (f : Form) → prefix t ≡ Some f → DueFine f (after_first (slots f))
 prefix_fine t f h = of_row f (after_first (slots f)) (find_all (λ g. row_fine g (after_first (slots g))) as_it_is prefixes t f refl h).0

@@ -26,7 +26,7 @@ use Rattle.js_reading.proofs.Runs.{nowhere, by_bool}
 use Rattle.js_reading.proofs.Rows.{either_of}
 use Rattle.js_reading.proofs.Ways.{lands}
 use Rattle.js_reading.proofs.Reading.{complete_expr}
-use Rattle.js_reading.proofs.Dooms.{Doomed, Lost, none_lost, lost_of, lost_then}
+use Rattle.js_reading.proofs.Dooms.{Doomed, Lost, lost_of, lost_then}
 
 pub parenthesized_facts : (e : Expr) → is_parenthesized_target e ≡ true → (is_target e ≡ false) × (bare_in e ≡ false)
 parenthesized_facts (tree.Parenthesized l e) h = (refl, refl)
@@ -105,12 +105,11 @@ no_have : (fs : List Frame) (m : Loc) (t : Token) → have fs None m t ≡ None
 no_have [] m t = refl
 no_have (f ∷ fs) m t = refl
 
-pub updated_lost : (i : ℕ) (e : Expr) (o : UpdateOperator) (w l m : Loc) (n : Wanted) (fs : List Frame) (t : Token) (te : List Token) (next : Token) (ts : List Token) → fits n i e ≡ true → Spells (AnExpr i e) m (t ∷ te) next → is_target e ≡ false → bare_in e ≡ false →
-    continues n e next ≡ false → Lost (run (Due (slot.PrefixUpdate o) w (Expr_ n ∷ []) [] l fs) (t ∷ (te ++ next ∷ ts)))
-updated_lost i e o w l m n fs t te next ts fit de none bare_ go =
-    subst Lost (sym (comes (Due (slot.PrefixUpdate o) w (Expr_ n ∷ []) [] l fs) i e m t te (InForm (slot.PrefixUpdate o) w (Expr_ n) [] []) fs next ts refl fit de bare_))
-    (lost_then (have (InForm (slot.PrefixUpdate o) w (Expr_ n) [] [] ∷ fs) (Some (AnExpr i e)) m next) ts
-    (none_lost (cond-false (continues n e next) _ _ go ∙ cond-true (fits n i e) _ _ fit ∙ ap (λ x. have fs x (through w m) next) (no_prefix o i e none (through w m)) ∙ no_have fs (through w m) next)))
+pub updated_stops : (i : ℕ) (e : Expr) (o : UpdateOperator) (w l m : Loc) (n : Wanted) (fs : List Frame) (t : Token) (te : List Token) (next : Token) (ts : List Token) → fits n i e ≡ true → Spells (AnExpr i e) m (t ∷ te) next → is_target e ≡ false → bare_in e ≡ false →
+    continues n e next ≡ false → run (Due (slot.PrefixUpdate o) w (Expr_ n ∷ []) [] l fs) (t ∷ (te ++ next ∷ ts)) ≡ None
+updated_stops i e o w l m n fs t te next ts fit de none bare_ go =
+    comes (Due (slot.PrefixUpdate o) w (Expr_ n ∷ []) [] l fs) i e m t te (InForm (slot.PrefixUpdate o) w (Expr_ n) [] []) fs next ts refl fit de bare_
+    ∙ ap (λ x. then_run x (λ d. run d ts)) (cond-false (continues n e next) _ _ go ∙ cond-true (fits n i e) _ _ fit ∙ ap (λ x. have fs x (through w m) next) (no_prefix o i e none (through w m)) ∙ no_have fs (through w m) next)
 
 -- ---- in the head of a `for`
 

@@ -22,7 +22,7 @@ use Rattle.js_reading.specs.Turns.{place, begun_level, leads, declares, listing,
 use Rattle.js_reading.proofs.Branches.{branches, each, among}
 use Rattle.js_reading.proofs.Runs.{nowhere, by_bool, by_branch}
 use Rattle.js_reading.proofs.Shapes.{closing}
-use Rattle.js_reading.proofs.Rows.{follows, follows_rest, follows_chosen, after, inner_kind, later_next, is_token, due_rest, is_rest, either_of, nameless, sure, sure_rest, sure_chosen, makes, well, due_well, by_choice, well_chosen, Fine, DueFine, fine_due, prefix_fine, join_fine, statement_fine}
+use Rattle.js_reading.proofs.Rows.{follows, follows_rest, follows_chosen, after, sign_kind, later_next, is_token, due_rest, is_rest, either_of, nameless, sure, sure_rest, sure_chosen, makes, well, due_well, by_choice, well_chosen, tame_rest, tame_chosen, Fine, DueFine, fine_due, prefix_fine, join_fine, statement_fine}
 use Rattle.js_reading.proofs.Tightness.{Leaf, leaf_made}
 use Rattle.js_reading.proofs.Sound.{stepped}
 
@@ -84,7 +84,7 @@ due_may ss h = refl
 pub record Ways (t : Token) (name : Bool) (Q : Config → Type 0) : Type 0 where
   pub by_want : (fs : List Frame) (d : Config) → Framed fs → want t fs ≡ Some d → Q d
   pub by_begin : (fs : List Frame) (d : Config) → Framed fs → begin t fs ≡ Some d → Q d
-  pub by_sign : (k : Kind) (f : Form) (w : Loc) (ss : List Slot) (ps : List Piece) (fs : List Frame) → inner_kind k ≡ true → is_kind k t.kind ≡ true → DueFine f ss → Framed fs → Q (Due f w ss ps t.loc fs)
+  pub by_sign : (k : Kind) (f : Form) (w : Loc) (ss : List Slot) (ps : List Piece) (fs : List Frame) → sign_kind k ≡ true → is_kind k t.kind ≡ true → DueFine f ss → Framed fs → Q (Due f w ss ps t.loc fs)
   pub by_text : (c : Class) (p : Piece) (f : Form) (w : Loc) (ss : List Slot) (ps : List Piece) (fs : List Frame) → piece_of c t.kind t.loc ≡ Some p → may (Text c ∷ ss) name ≡ true → follows (makes f) (Text c ∷ ss) ≡ true → DueFine f ss → Framed fs → Q (Due f w ss ps t.loc fs)
   pub by_comma : (fs : List Frame) → is_mark P.Comma t ≡ true → Framed fs → Q (Item fs)
   pub by_end : (ss : Stmts) → is_kind End t.kind ≡ true → Q (Finished ss)
@@ -103,20 +103,20 @@ lands Q {c = c} {d = d} h q = let e : c ≡ d = cc in subst Q e q
 or_left : (x y : Bool) → x ≡ true → (x || y) ≡ true
 or_left x y h = ap (λ b. b || y) h
 
-closing_inner : (p : Punctuator) → closing p ≡ true → inner_kind (T.Punctuator p) ≡ true
+closing_inner : (p : Punctuator) → closing p ≡ true → sign_kind (T.Punctuator p) ≡ true
 closing_inner P.CloseParenthesis h = refl
 closing_inner P.CloseBracket h = refl
 closing_inner p h = absurd (true≢false (sym h))
 
 token_fine : (f : Form) (s : Slot) (ss : List Slot) → is_token s ≡ true → Fine f (s ∷ ss) → (makes f ≡ true → well f (s ∷ ss) ≡ due_well f ss) → DueFine f ss
-token_fine f s ss is h e = (due_rest s ss is h.0, λ m. sym (e m) ∙ h.1 m, follows_rest (makes f) s ss h.2)
+token_fine f s ss is h e = (due_rest s ss is h.0, λ m. sym (e m) ∙ h.1 m, follows_rest (makes f) s ss h.2, tame_rest s ss h.3)
 
 next_fine : (f : Form) (s : Slot) (ss : List Slot) → Fine f (s ∷ ss) → (well f (s ∷ ss) ≡ true → well f ss ≡ true) → Fine f ss
-next_fine f s ss h e = (sure_rest s ss h.0, λ m. e (h.1 m), follows_rest (makes f) s ss h.2)
+next_fine f s ss h e = (sure_rest s ss h.0, λ m. e (h.1 m), follows_rest (makes f) s ss h.2, tame_rest s ss h.3)
 
 take_way : {t : Token} {b : Bool} {Q : Config → Type 0} (y : Ways t b Q) (f : Form) (w : Loc) (s : Slot) (ss : List Slot) (ps : List Piece) (fs : List Frame) (d : Config) → Fine f (s ∷ ss) → may (s ∷ ss) b ≡ true → Framed fs → take f w s ss ps fs t ≡ Some d → Q d
 take_way {t = t} {Q = Q} y f w (Sign k) ss ps fs d fine n fr h =
-    by_bool (is_kind k t.kind) _ _ d (λ c q. lands Q q (y.by_sign k f w ss ps fs (and_parts (inner_kind k) (not (later_next ss) && sure ss) fine.0).0 c (token_fine f (Sign k) ss refl fine (λ m. refl)) fr)) (λ c q. nowhere q) h
+    by_bool (is_kind k t.kind) _ _ d (λ c q. lands Q q (y.by_sign k f w ss ps fs (and_parts (sign_kind k) (not (later_next ss) && sure ss) fine.0).0 c (token_fine f (Sign k) ss refl fine (λ m. refl)) fr)) (λ c q. nowhere q) h
 take_way {t = t} {Q = Q} y f w (Text c) ss ps fs d fine n fr h = by_piece (piece_of c t.kind t.loc) refl h
   where
     by_piece : (o : Option Piece) → piece_of c t.kind t.loc ≡ o → texted o (λ p. enter f w ss (ps ++ p ∷ []) t.loc fs) ≡ Some d → Q d
@@ -217,7 +217,7 @@ pass_way {t = t} {b = b} y f w (By c ∷ ss) ps l fs d go fine n fr rec h =
     (λ rs p. rec rs (both (is_pass (branch c t)) (passing ss t) (ap is_pass e) p)) q)
     (λ qs s rs e q. by_bool (leads (place fs) c) _ _ d
     (λ k g. take_way y f w s (rs ++ ss) (ps ++ qs) fs d
-    (sure_chosen c t qs s rs ss e (nameless_rest c ss fine.0) (sure_rest (By c) ss fine.0), λ m. let a = and_parts (by_choice f c ss) (well f ss) (fine.1 m) in well_chosen f c t qs s rs ss e a.0 a.1, follows_chosen (makes f) c t qs s rs ss e fine.2)
+    (sure_chosen c t qs s rs ss e (nameless_rest c ss fine.0) (sure_rest (By c) ss fine.0), λ m. let a = and_parts (by_choice f c ss) (well f ss) (fine.1 m) in well_chosen f c t qs s rs ss e a.0 a.1, follows_chosen (makes f) c t qs s rs ss e fine.2, tame_chosen c t qs s rs ss e fine.3)
     (chosen_may c t qs s rs ss b e n) fr g)
     (λ k g. nowhere g) q) h
 pass_way y f w (s ∷ ss) ps l fs d go fine n fr rec h = take_way y f w s ss ps fs d fine n fr h
@@ -247,10 +247,10 @@ abbrev pub Leads : (Config → Type 0) → Frame → List Frame → Token → Co
 Leads Q f fs t d = (qs : List Piece) (l : Loc) → passing (rest_of f) t ≡ true → have fs (build (form_of f) l qs) l t ≡ Some d → Q d
 
 begun_label : DueFine slot.Labelled (Stmt_ ∷ [])
-begun_label = (refl, λ m. absurd (true≢false (sym m)), refl)
+begun_label = (refl, λ m. absurd (true≢false (sym m)), refl, refl)
 
 begun_expression : Fine slot.Expression (By slot.Semicolon ∷ [])
-begun_expression = (refl, λ m. absurd (true≢false (sym m)), refl)
+begun_expression = (refl, λ m. absurd (true≢false (sym m)), refl, refl)
 
 part_rest : (s : Slot) (ss : List Slot) → sure (s ∷ ss) ≡ true → (sure (s ∷ ss) ≡ (nameless ss && sure ss)) → nameless ss ≡ true
 part_rest s ss h e = (and_parts (nameless ss) (sure ss) (sym e ∙ h)).0
@@ -277,7 +277,7 @@ leave_way y f i e l fs d fr rec later h = nowhere h
 pub left_way : {t : Token} {b : Bool} {Q : Config → Type 0} (y : Ways t b Q) (f : Frame) (s : Stmt) (l : Loc) (fs : List Frame) (d : Config) → Framed (f ∷ fs) → Leads Q f fs t d → left f s l fs t (λ p m. have fs p m t) ≡ Some d → Q d
 left_way {t = t} {b = b} y (InForm f w Stmt_ ss ps) s l fs d fr rec h =
     by_bool (is_declaration s) _ _ d (λ c q. nowhere q)
-    (λ c q. pass_way y f w ss (ps ++ AStmt s ∷ []) l fs d (λ p m. have fs p m t) (sure_rest Stmt_ ss fr.0.0, λ m. absurd (true≢false (sym (fr.0.1 m))), fr.0.2) (nameless_may ss b (part_rest Stmt_ ss fr.0.0 refl)) fr.1 (λ qs p. rec qs (through w l) p) q) h
+    (λ c q. pass_way y f w ss (ps ++ AStmt s ∷ []) l fs d (λ p m. have fs p m t) (sure_rest Stmt_ ss fr.0.0, λ m. absurd (true≢false (sym (fr.0.1 m))), fr.0.2, tame_rest Stmt_ ss fr.0.3) (nameless_may ss b (part_rest Stmt_ ss fr.0.0 refl)) fr.1 (λ qs p. rec qs (through w l) p) q) h
 left_way {t = t} {b = b} y (InStmts f w ss ps xs) s l fs d fr rec h =
     by_bool (closes t) _ _ d
     (λ c q. pass_way y f w ss (ps ++ TheStmts (push_stmts xs s) ∷ []) l fs d (λ p m. have fs p m t) (next_fine f Stmts_ ss fr.0 (λ q. q)) (nameless_may ss b (part_rest Stmts_ ss fr.0.0 refl)) fr.1 (λ qs p. rec qs (through w l) (both (closes t) (passing ss t) c p)) q)
@@ -294,7 +294,7 @@ rest_way : (t : Token) (Q : Config → Type 0) → Laters t Q → (f : Form) (w 
 rest_way t Q later f w (By slot.TemplateRest ∷ ss) ps l fs d go fine fr r h =
     by_branch (branch slot.TemplateRest t) _ _ d (λ qs e q. absurd (true≢false (sym (subst (λ x. goes x ≡ true) e (among slot.TemplateRest t goes refl)))))
     (λ qs s rs e q. by_slot qs s rs (subst (λ x. texts x ≡ true) e (among slot.TemplateRest t texts refl))
-    (sure_chosen slot.TemplateRest t qs s rs ss e (nameless_rest slot.TemplateRest ss fine.0) (sure_rest (By slot.TemplateRest) ss fine.0), λ m. let a = and_parts (by_choice f slot.TemplateRest ss) (well f ss) (fine.1 m) in well_chosen f slot.TemplateRest t qs s rs ss e a.0 a.1, follows_chosen (makes f) slot.TemplateRest t qs s rs ss e fine.2) q) h
+    (sure_chosen slot.TemplateRest t qs s rs ss e (nameless_rest slot.TemplateRest ss fine.0) (sure_rest (By slot.TemplateRest) ss fine.0), λ m. let a = and_parts (by_choice f slot.TemplateRest ss) (well f ss) (fine.1 m) in well_chosen f slot.TemplateRest t qs s rs ss e a.0 a.1, follows_chosen (makes f) slot.TemplateRest t qs s rs ss e fine.2, tame_chosen slot.TemplateRest t qs s rs ss e fine.3) q) h
   where
     goes : Branch → Bool
     goes (Pass qs) = false

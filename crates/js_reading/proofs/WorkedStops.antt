@@ -1,13 +1,16 @@
 -- At which token the reading machine stops, computed: at the first one that no sentence goes on with. `<LF>` stands for a line terminator.
-use Rattle.std.proofs.Common.{◌≡◌, Bool, true, false, not, ◌&&◌, List, [], ◌∷◌, ◌++◌, refl}
+use Rattle.std.proofs.Common.{◌≡◌, Bool, true, false, not, ◌&&◌, List, [], ◌∷◌, ◌++◌, Option, Some, None, refl}
 use Rattle.std.specs.Prelude.{codes, is_some}
 use Rattle.std.specs.Str.{chars}
-use Rattle.js_text.specs.Token.{Token, Kind, Word, Numeral, TemplateHead, StringLiteral, RegularExpression}
+use Rattle.js_tree.specs.Plain.{This}
+use Rattle.js_text.specs.Token.{Token, Kind, Word, Numeral, TemplateHead, StringLiteral, RegularExpression, End}
 use Rattle.js_text.specs.Token as T
 use Rattle.js_text.specs.declared.punctuator.Punctuator.TheVariants as P
 use Rattle.js_text.specs.Word.{reserved_word}
 use Rattle.js_reading.specs.Kinds.{is_keyword}
-use Rattle.js_reading.specs.Turns.{run, Start}
+use Rattle.js_reading.specs.Slots.{AnExpr}
+use Rattle.js_reading.specs.Turns.{Config, Have, run, Start}
+use Rattle.js_reading.specs.Unsupported.{in_function}
 use Rattle.js_reading.proofs.Worked.{token}
 
 given : List (Bool × Kind) → List Token
@@ -329,3 +332,138 @@ stops-60 = refl
 stops-61 : goes_on_at ((false, Word (codes "a")) ∷ (false, T.Punctuator P.Assign) ∷ (false, T.Punctuator P.OpenBrace) ∷ (false, Word (codes "__proto__")) ∷ []) (false, T.Punctuator P.CloseBrace) ≡ true
 unfolding is_keyword reserved_word chars given token stops_at goes_on_at
 stops-61 = refl
+
+-- `async` stops at `of`
+stops-62 : stops_at ((false, Word (codes "async")) ∷ []) (false, Word (codes "of")) ≡ true
+unfolding is_keyword reserved_word chars given token stops_at goes_on_at
+stops-62 = refl
+
+-- `async` stops at `let`
+stops-63 : stops_at ((false, Word (codes "async")) ∷ []) (false, Word (codes "let")) ≡ true
+unfolding is_keyword reserved_word chars given token stops_at goes_on_at
+stops-63 = refl
+
+-- `for ( async of` stops at `=>`
+stops-64 : stops_at ((false, Word (codes "for")) ∷ (false, T.Punctuator P.OpenParenthesis) ∷ (false, Word (codes "async")) ∷ (false, Word (codes "of")) ∷ []) (false, T.Punctuator P.Arrow) ≡ true
+unfolding is_keyword reserved_word chars given token stops_at goes_on_at
+stops-64 = refl
+
+-- `async ( a , b )` stops at `=>`
+stops-65 : stops_at ((false, Word (codes "async")) ∷ (false, T.Punctuator P.OpenParenthesis) ∷ (false, Word (codes "a")) ∷ (false, T.Punctuator P.Comma) ∷ (false, Word (codes "b")) ∷ (false, T.Punctuator P.CloseParenthesis) ∷ []) (false, T.Punctuator P.Arrow) ≡ true
+unfolding is_keyword reserved_word chars given token stops_at goes_on_at
+stops-65 = refl
+
+-- `async ( a , b )` stops at `<LF> =>`
+stops-66 : stops_at ((false, Word (codes "async")) ∷ (false, T.Punctuator P.OpenParenthesis) ∷ (false, Word (codes "a")) ∷ (false, T.Punctuator P.Comma) ∷ (false, Word (codes "b")) ∷ (false, T.Punctuator P.CloseParenthesis) ∷ []) (true, T.Punctuator P.Arrow) ≡ true
+unfolding is_keyword reserved_word chars given token stops_at goes_on_at
+stops-66 = refl
+
+-- `async ( a , b )` goes on with `.`
+stops-67 : goes_on_at ((false, Word (codes "async")) ∷ (false, T.Punctuator P.OpenParenthesis) ∷ (false, Word (codes "a")) ∷ (false, T.Punctuator P.Comma) ∷ (false, Word (codes "b")) ∷ (false, T.Punctuator P.CloseParenthesis) ∷ []) (false, T.Punctuator P.Dot) ≡ true
+unfolding is_keyword reserved_word chars given token stops_at goes_on_at
+stops-67 = refl
+
+-- `new async ( a )` stops at `=>`
+stops-68 : stops_at ((false, Word (codes "new")) ∷ (false, Word (codes "async")) ∷ (false, T.Punctuator P.OpenParenthesis) ∷ (false, Word (codes "a")) ∷ (false, T.Punctuator P.CloseParenthesis) ∷ []) (false, T.Punctuator P.Arrow) ≡ true
+unfolding is_keyword reserved_word chars given token stops_at goes_on_at
+stops-68 = refl
+
+-- `function f ( ) {` goes on with `this`
+stops-69 : goes_on_at ((false, Word (codes "function")) ∷ (false, Word (codes "f")) ∷ (false, T.Punctuator P.OpenParenthesis) ∷ (false, T.Punctuator P.CloseParenthesis) ∷ (false, T.Punctuator P.OpenBrace) ∷ []) (false, Word (codes "this")) ≡ true
+unfolding is_keyword reserved_word chars given token stops_at goes_on_at
+stops-69 = refl
+
+-- `this ;` stops at `END`
+stops-70 : stops_at ((false, Word (codes "this")) ∷ (false, T.Punctuator P.Semicolon) ∷ []) (false, End) ≡ true
+unfolding is_keyword reserved_word chars given token stops_at goes_on_at
+stops-70 = refl
+
+-- `( ) => { this ; } ;` stops at `END`
+stops-71 : stops_at ((false, T.Punctuator P.OpenParenthesis) ∷ (false, T.Punctuator P.CloseParenthesis) ∷ (false, T.Punctuator P.Arrow) ∷ (false, T.Punctuator P.OpenBrace) ∷ (false, Word (codes "this")) ∷ (false, T.Punctuator P.Semicolon) ∷ (false, T.Punctuator P.CloseBrace) ∷ (false, T.Punctuator P.Semicolon) ∷ []) (false, End) ≡ true
+unfolding is_keyword reserved_word chars given token stops_at goes_on_at
+stops-71 = refl
+
+-- `function f ( ) { this ; }` goes on with `END`
+stops-72 : goes_on_at ((false, Word (codes "function")) ∷ (false, Word (codes "f")) ∷ (false, T.Punctuator P.OpenParenthesis) ∷ (false, T.Punctuator P.CloseParenthesis) ∷ (false, T.Punctuator P.OpenBrace) ∷ (false, Word (codes "this")) ∷ (false, T.Punctuator P.Semicolon) ∷ (false, T.Punctuator P.CloseBrace) ∷ []) (false, End) ≡ true
+unfolding is_keyword reserved_word chars given token stops_at goes_on_at
+stops-72 = refl
+
+-- ---- `this` (13.2.1): whether it stands in a function that is no arrow
+
+own_of : Option Config → Option Bool
+own_of (Some (Have (AnExpr i (This l)) m fs)) = Some (in_function fs)
+own_of c = None
+
+-- where these tokens lead to a place where `this` may stand
+this_after : List (Bool × Kind) → Option Bool
+this_after ks = own_of (run Start (given (ks ++ (false, Word (codes "this")) ∷ [])))
+
+-- at the start
+this-1 : this_after ([]) ≡ Some false
+unfolding is_keyword reserved_word chars given token own_of this_after
+this-1 = refl
+
+-- after `function f ( ) {`
+this-2 : this_after ((false, Word (codes "function")) ∷ (false, Word (codes "f")) ∷ (false, T.Punctuator P.OpenParenthesis) ∷ (false, T.Punctuator P.CloseParenthesis) ∷ (false, T.Punctuator P.OpenBrace) ∷ []) ≡ Some true
+unfolding is_keyword reserved_word chars given token own_of this_after
+this-2 = refl
+
+-- after `function f ( a =`
+this-3 : this_after ((false, Word (codes "function")) ∷ (false, Word (codes "f")) ∷ (false, T.Punctuator P.OpenParenthesis) ∷ (false, Word (codes "a")) ∷ (false, T.Punctuator P.Assign) ∷ []) ≡ Some true
+unfolding is_keyword reserved_word chars given token own_of this_after
+this-3 = refl
+
+-- after `a = function ( b = [`
+this-4 : this_after ((false, Word (codes "a")) ∷ (false, T.Punctuator P.Assign) ∷ (false, Word (codes "function")) ∷ (false, T.Punctuator P.OpenParenthesis) ∷ (false, Word (codes "b")) ∷ (false, T.Punctuator P.Assign) ∷ (false, T.Punctuator P.OpenBracket) ∷ []) ≡ Some true
+unfolding is_keyword reserved_word chars given token own_of this_after
+this-4 = refl
+
+-- after `function f ( ) { ( ) => {`
+this-5 : this_after ((false, Word (codes "function")) ∷ (false, Word (codes "f")) ∷ (false, T.Punctuator P.OpenParenthesis) ∷ (false, T.Punctuator P.CloseParenthesis) ∷ (false, T.Punctuator P.OpenBrace) ∷ (false, T.Punctuator P.OpenParenthesis) ∷ (false, T.Punctuator P.CloseParenthesis) ∷ (false, T.Punctuator P.Arrow) ∷ (false, T.Punctuator P.OpenBrace) ∷ []) ≡ Some true
+unfolding is_keyword reserved_word chars given token own_of this_after
+this-5 = refl
+
+-- after `function f ( ) { }`
+this-6 : this_after ((false, Word (codes "function")) ∷ (false, Word (codes "f")) ∷ (false, T.Punctuator P.OpenParenthesis) ∷ (false, T.Punctuator P.CloseParenthesis) ∷ (false, T.Punctuator P.OpenBrace) ∷ (false, T.Punctuator P.CloseBrace) ∷ []) ≡ Some false
+unfolding is_keyword reserved_word chars given token own_of this_after
+this-6 = refl
+
+-- after `( ) => {`
+this-7 : this_after ((false, T.Punctuator P.OpenParenthesis) ∷ (false, T.Punctuator P.CloseParenthesis) ∷ (false, T.Punctuator P.Arrow) ∷ (false, T.Punctuator P.OpenBrace) ∷ []) ≡ Some false
+unfolding is_keyword reserved_word chars given token own_of this_after
+this-7 = refl
+
+-- after `( a =`
+this-8 : this_after ((false, T.Punctuator P.OpenParenthesis) ∷ (false, Word (codes "a")) ∷ (false, T.Punctuator P.Assign) ∷ []) ≡ Some false
+unfolding is_keyword reserved_word chars given token own_of this_after
+this-8 = refl
+
+-- after `a = { b ( ) {`
+this-9 : this_after ((false, Word (codes "a")) ∷ (false, T.Punctuator P.Assign) ∷ (false, T.Punctuator P.OpenBrace) ∷ (false, Word (codes "b")) ∷ (false, T.Punctuator P.OpenParenthesis) ∷ (false, T.Punctuator P.CloseParenthesis) ∷ (false, T.Punctuator P.OpenBrace) ∷ []) ≡ Some true
+unfolding is_keyword reserved_word chars given token own_of this_after
+this-9 = refl
+
+-- after `a = { b ( c =`
+this-10 : this_after ((false, Word (codes "a")) ∷ (false, T.Punctuator P.Assign) ∷ (false, T.Punctuator P.OpenBrace) ∷ (false, Word (codes "b")) ∷ (false, T.Punctuator P.OpenParenthesis) ∷ (false, Word (codes "c")) ∷ (false, T.Punctuator P.Assign) ∷ []) ≡ Some true
+unfolding is_keyword reserved_word chars given token own_of this_after
+this-10 = refl
+
+-- after `a = { b ( ) { } , c :`
+this-11 : this_after ((false, Word (codes "a")) ∷ (false, T.Punctuator P.Assign) ∷ (false, T.Punctuator P.OpenBrace) ∷ (false, Word (codes "b")) ∷ (false, T.Punctuator P.OpenParenthesis) ∷ (false, T.Punctuator P.CloseParenthesis) ∷ (false, T.Punctuator P.OpenBrace) ∷ (false, T.Punctuator P.CloseBrace) ∷ (false, T.Punctuator P.Comma) ∷ (false, Word (codes "c")) ∷ (false, T.Punctuator P.Colon) ∷ []) ≡ Some false
+unfolding is_keyword reserved_word chars given token own_of this_after
+this-11 = refl
+
+-- after `a = { [`
+this-12 : this_after ((false, Word (codes "a")) ∷ (false, T.Punctuator P.Assign) ∷ (false, T.Punctuator P.OpenBrace) ∷ (false, T.Punctuator P.OpenBracket) ∷ []) ≡ Some false
+unfolding is_keyword reserved_word chars given token own_of this_after
+this-12 = refl
+
+-- after `a = { b ( ) { } , [`
+this-13 : this_after ((false, Word (codes "a")) ∷ (false, T.Punctuator P.Assign) ∷ (false, T.Punctuator P.OpenBrace) ∷ (false, Word (codes "b")) ∷ (false, T.Punctuator P.OpenParenthesis) ∷ (false, T.Punctuator P.CloseParenthesis) ∷ (false, T.Punctuator P.OpenBrace) ∷ (false, T.Punctuator P.CloseBrace) ∷ (false, T.Punctuator P.Comma) ∷ (false, T.Punctuator P.OpenBracket) ∷ []) ≡ Some false
+unfolding is_keyword reserved_word chars given token own_of this_after
+this-13 = refl
+
+-- after `a = { b ( ) { } } ;`
+this-14 : this_after ((false, Word (codes "a")) ∷ (false, T.Punctuator P.Assign) ∷ (false, T.Punctuator P.OpenBrace) ∷ (false, Word (codes "b")) ∷ (false, T.Punctuator P.OpenParenthesis) ∷ (false, T.Punctuator P.CloseParenthesis) ∷ (false, T.Punctuator P.OpenBrace) ∷ (false, T.Punctuator P.CloseBrace) ∷ (false, T.Punctuator P.CloseBrace) ∷ (false, T.Punctuator P.Semicolon) ∷ []) ≡ Some false
+unfolding is_keyword reserved_word chars given token own_of this_after
+this-14 = refl

@@ -1,12 +1,14 @@
 -- What is proved of the whole language: of `Sentences`, `Turns` and `Open`.
-use Rattle.std.specs.Prelude.{◌≡◌, ℕ, true, ◌≤◌, ◌<◌, List, ◌++◌, Some, None}
+use Rattle.std.specs.Prelude.{◌≡◌, ℕ, true, false, ◌≤◌, ◌<◌, List, ◌++◌, Some, None, codes}
 use Rattle.js_tree.specs.Plain.{File}
 use Rattle.js_tree.specs.Height.{height_file}
 use Rattle.js_text.specs.Token.{Token}
 use Rattle.js_reading.specs.Sentences.{Sentence, Dead}
-use Rattle.js_reading.specs.Turns.{Config, turn, run, tree_of, Start, is_for, asked, braced, goal_of_place}
+use Rattle.js_reading.specs.Productions.{is_word}
+use Rattle.js_reading.specs.Turns.{Config, Frame, want, turn, run, tree_of, Start, is_for, asked, braced, goal_of_place}
 use Rattle.js_reading.specs.Open.{OpensMore, floor}
-use Rattle.js_reading.specs.Unsupported.{Unsupported, Stops}
+use Rattle.js_reading.specs.Unsupported.{Unsupported, Stops, Begins, at_any_name}
+use Rattle.js_reading.specs.Reads.{Reads}
 
 -- a sentence leads to its tree
 abbrev pub ReadsEachSentence : Type 0
@@ -36,6 +38,18 @@ BeginsLevels = (ts : List Token) (c : Config) (limit : ℕ) → run Start ts ≡
 abbrev pub AsksForEach : Type 0
 AsksForEach = (ts : List Token) (t : Token) (c d : Config) → run Start ts ≡ Some c → turn c t ≡ Some d → is_for (asked (goal_of_place c) (braced t.kind)) t.kind ≡ true
 
--- no sentence goes on with what begins a form that is left out, of those in `Stops`
+-- no sentence goes on with what begins a form that is left out
 abbrev pub StopsAtLeftOut : Type 0
-StopsAtLeftOut = (u : Unsupported) (ts us : List Token) (c : Config) → run Start ts ≡ Some c → Stops u c us → Dead (ts ++ us)
+StopsAtLeftOut = (u : Unsupported) (ts us : List Token) (c : Config) → run Start ts ≡ Some c → Begins u c us → Dead (ts ++ us)
+
+-- a `this` that is read, and is no name, stands where an expression begins: the frames there tell whether it is in a function
+abbrev pub FindsThis : Type 0
+FindsThis = (ts : List Token) (t : Token) (c d : Config) → run Start ts ≡ Some c → is_word (codes "this") t ≡ true → at_any_name c ≡ false → turn c t ≡ Some d → (fs : List Frame) × (turn c t ≡ want t fs)
+
+-- at those in `Stops` the machine stops
+abbrev pub StopsTheRun : Type 0
+StopsTheRun = (u : Unsupported) (ts us : List Token) (c : Config) → run Start ts ≡ Some c → Stops u c us → run c us ≡ None
+
+-- a text has at most one tree
+abbrev pub TextHasOneTree : Type 0
+TextHasOneTree = (text : List ℕ) (one other : File) → Reads text one → Reads text other → one ≡ other

@@ -8,4 +8,5 @@ pub mod Sentences
 pub mod Turns
 pub mod Unsupported
 pub mod Open
+pub mod Reads
 pub mod Laws

@@ -1,5 +1,5 @@
 -- The forms of the standard that the language leaves out, and what begins each: a token at a place, and those after it.
-use Rattle.std.specs.Prelude.{◌≡◌, ℕ, Bool, true, false, ◌&&◌, ◌||◌, List, [], ◌∷◌, ◌++◌, Option, Some, codes}
+use Rattle.std.specs.Prelude.{◌≡◌, ℕ, Bool, true, false, ◌||◌, List, [], ◌∷◌, ◌++◌, Option, Some, codes}
 use Rattle.js_tree.specs.declared.place.Loc.{Loc}
 use Rattle.js_tree.specs.Plain.{Expr, Exprs}
 use Rattle.js_tree.specs.Plain as tree
@@ -8,7 +8,7 @@ use Rattle.js_text.specs.Level.{any}
 use Rattle.js_text.specs.Token.{Token, Kind, BigInt}
 use Rattle.js_text.specs.Token as T
 use Rattle.js_text.specs.declared.punctuator.Punctuator.TheVariants as P
-use Rattle.js_reading.specs.Slots.{Wanted, WithoutIn, Class, BoundName, AnyName, Key, Slot, Text, Expr_, Items_, By, Piece, AnExpr, Form}
+use Rattle.js_reading.specs.Slots.{Wanted, WithoutIn, Class, BoundName, AnyName, Key, Slot, Text, Expr_, Items_, By, Piece, AnExpr, TheStmts, IsMethod, Form}
 use Rattle.js_reading.specs.Slots as slot
 use Rattle.js_reading.specs.Productions.{is_mark, is_word, is_class, is_proto_word, join}
 use Rattle.js_reading.specs.Makes.{is_target}
@@ -85,32 +85,26 @@ after_tight (Have (AnExpr i e) l fs) = true
 after_tight (Due f w ss ps l fs) = operand_over f ss
 after_tight c = false
 
--- in a function that is no arrow: in its body, or in a default
-abbrev pub in_parameters : List Slot → Bool
-in_parameters (slot.Place_ ∷ By slot.AfterParameter ∷ ss) = true
-in_parameters ss = false
+-- ---- in a function that is no arrow: in its parameters or its body
 
-abbrev pub has_this : Form → Bool
-has_this slot.FunctionExpression = true
-has_this slot.FunctionDeclaration = true
-has_this slot.ObjectLiteral = true
-has_this f = false
+-- what comes after these parts of a function, or of an object, is a function's or a method's own: a method's begin with its mark, and both end with their body
+abbrev pub in_own : Bool → List Piece → Bool
+in_own b [] = b
+in_own b (IsMethod ∷ ps) = in_own true ps
+in_own b (TheStmts ss ∷ ps) = in_own false ps
+in_own b (p ∷ ps) = in_own b ps
+
+abbrev pub is_function : Form → Bool
+is_function slot.FunctionExpression = true
+is_function slot.FunctionDeclaration = true
+is_function f = false
 
 abbrev pub in_function : List Frame → Bool
 in_function [] = false
-in_function (InStmts f w ss ps xs ∷ fs) = has_this f || in_function fs
-in_function (InForm f w s ss ps ∷ fs) = (has_this f && in_parameters ss) || in_function fs
+in_function (InForm f w s ss ps ∷ fs) = in_own (is_function f) ps || in_function fs
+in_function (InStmts f w ss ps xs ∷ fs) = in_own (is_function f) ps || in_function fs
+in_function (InItems f w p ss ps xs ∷ fs) = in_own (is_function f) ps || in_function fs
 in_function (f ∷ fs) = in_function fs
-
-abbrev pub frames_of : Config → List Frame
-frames_of (Due f w ss ps l fs) = InForm f w (Expr_ (slot.Level 0)) (after ss) ps ∷ fs
-  where
-    after : List Slot → List Slot
-    after [] = []
-    after (s ∷ ss) = ss
-frames_of (Have p l fs) = fs
-frames_of (Item fs) = fs
-frames_of c = []
 
 -- ---- tokens
 
@@ -150,9 +144,10 @@ in_head w l fs = Due slot.For w (By slot.Head ∷ []) [] l fs
 abbrev pub of_head : Loc → List Frame → List Frame
 of_head w fs = InForm slot.For w (Expr_ (WithoutIn any)) (By slot.AfterTarget ∷ []) [] ∷ fs
 
--- ---- the relations: at a place, these tokens begin with those that begin the form
+-- ---- the relations: at a place, these tokens begin with those that begin the form. Where the machine does with a token what it does
+-- ---- where an expression is wanted, one begins
 
--- no sentence goes on with what begins it. Where the machine does with a token what it does where an expression is wanted, one begins
+-- the reading machine stops at one of them
 pub data Stops : Unsupported → Config → List Token → Type 0 where
   class : {c : Config} {t : Token} {ts : List Token} → is_word (codes "class") t ≡ true → at_any_name c ≡ false → Stops ClassForm c (t ∷ ts)
   super : {c : Config} {t : Token} {ts : List Token} → is_word (codes "super") t ≡ true → at_any_name c ≡ false → Stops Super c (t ∷ ts)
@@ -163,38 +158,38 @@ pub data Stops : Unsupported → Config → List Token → Type 0 where
   optional_chain : {c : Config} {t : Token} {ts : List Token} → is_mark P.OptionalChain t ≡ true → Stops OptionalChain c (t ∷ ts)
   logical_assignment : {c : Config} {t : Token} {ts : List Token} → (is_mark P.LogicalAndAssign t || is_mark P.LogicalOrAssign t || is_mark P.CoalesceAssign t) ≡ true → Stops LogicalAssignment c (t ∷ ts)
   async_function : {c : Config} {t word : Token} {ts : List Token} → is_word (codes "async") t ≡ true → at_any_name c ≡ false → is_word (codes "function") word ≡ true → word.line_terminator_before ≡ false → Stops Async c (t ∷ word ∷ ts)
-  -- `of` may be that of a `for`
-  async_name : {c : Config} {t : Token} {ts : List Token} (name arrow : Token) → is_word (codes "async") t ≡ true → at_any_name c ≡ false → is_class BoundName name ≡ true → (is_word (codes "let") name || is_word (codes "of") name) ≡ false → name.line_terminator_before ≡ false →
-      is_mark P.Arrow arrow ≡ true → Stops Async c (t ∷ name ∷ arrow ∷ ts)
+  async_name : {c : Config} {t : Token} {ts : List Token} (name arrow : Token) → is_word (codes "async") t ≡ true → at_any_name c ≡ false → is_class BoundName name ≡ true → name.line_terminator_before ≡ false → is_mark P.Arrow arrow ≡ true →
+      Stops Async c (t ∷ name ∷ arrow ∷ ts)
+  -- where an expression begins
+  async_arguments : {c : Config} {t : Token} {b : Bool} {xs : Exprs} {tx : List Token} (f : Frame) (fs : List Frame) (opening closing arrow : Token) (ts : List Token) → turn c t ≡ want t (f ∷ fs) → is_word (codes "async") t ≡ true →
+      is_mark P.OpenParenthesis opening ≡ true → opening.line_terminator_before ≡ false → SpellsItems b xs tx closing → is_mark P.CloseParenthesis closing ≡ true → is_mark P.Arrow arrow ≡ true → Stops Async c (t ∷ opening ∷ (tx ++ closing ∷ arrow ∷ ts))
   async_method : {c : Config} {t key : Token} {ts : List Token} → is_word (codes "async") t ≡ true → at_property c ≡ true → (is_class Key key || is_mark P.OpenBracket key) ≡ true → key.line_terminator_before ≡ false → Stops Async c (t ∷ key ∷ ts)
   generator : {c : Config} {t star : Token} {ts : List Token} → is_word (codes "function") t ≡ true → at_any_name c ≡ false → is_mark P.Star star ≡ true → Stops Generator c (t ∷ star ∷ ts)
   generator_method : {c : Config} {t : Token} {ts : List Token} → is_mark P.Star t ≡ true → at_property c ≡ true → Stops Generator c (t ∷ ts)
   accessor : {c : Config} {t key : Token} {ts : List Token} → (is_word (codes "get") t || is_word (codes "set") t) ≡ true → at_property c ≡ true → (is_class Key key || is_mark P.OpenBracket key) ≡ true → Stops Accessor c (t ∷ key ∷ ts)
   bigint : {c : Config} {t : Token} {ts : List Token} → is_bigint t.kind ≡ true → Stops BigIntLiteral c (t ∷ ts)
   elision : {c : Config} {t : Token} {ts : List Token} → is_mark P.Comma t ≡ true → at_item c ≡ true → Stops Elision c (t ∷ ts)
-  proto : {t colon : Token} {w l : Loc} {ss : List Slot} {ps : List Piece} {fs : List Frame} {ts : List Token} → is_proto_word t.kind ≡ true → is_mark P.Colon colon ≡ true → Stops Proto (Due slot.ObjectLiteral w (By slot.Properties ∷ ss) ps l fs) (t ∷ colon ∷ ts)
   tagged_template : {c : Config} {t : Token} {ts : List Token} → is_template t.kind ≡ true → after_tight c ≡ true → Stops TaggedTemplate c (t ∷ ts)
   -- brackets where a name to bind is due, and a shorthand before `=`
   binding : {c : Config} {t : Token} {ts : List Token} → (is_mark P.OpenBracket t || is_mark P.OpenBrace t) ≡ true → at_bound_name c ≡ true → Stops BindingPattern c (t ∷ ts)
   shorthand : {c : Config} {t sign : Token} {ts : List Token} → is_class BoundName t ≡ true → at_property c ≡ true → is_mark P.Assign sign ≡ true → Stops BindingPattern c (t ∷ sign ∷ ts)
-  -- a target in parentheses: the whole left side of an assignment or an update, the operand of an update, and the target of a `for`
-  target_before : {c : Config} {i : ℕ} {e : Expr} {l : Loc} {t : Token} {te : List Token} (f : Frame) (fs : List Frame) (sign : Token) (ts : List Token) → turn c t ≡ want t (f ∷ fs) → fits (wanted f) i e ≡ true → Spells (AnExpr i e) l (t ∷ te) sign →
-      is_parenthesized_target e ≡ true → assigns (join sign) ≡ true → continues (wanted f) e sign ≡ true → Stops ParenthesizedTarget c (t ∷ (te ++ sign ∷ ts))
+  -- the operand of an update, a target in parentheses
   target_after : {i : ℕ} {e : Expr} {o : UpdateOperator} {w l m : Loc} {n : Wanted} {fs : List Frame} {t : Token} {te : List Token} (next : Token) (ts : List Token) → fits n i e ≡ true → Spells (AnExpr i e) m (t ∷ te) next →
       is_parenthesized_target e ≡ true → continues n e next ≡ false → Stops ParenthesizedTarget (Due (slot.PrefixUpdate o) w (Expr_ n ∷ []) [] l fs) (t ∷ (te ++ next ∷ ts))
+
+-- all of them: those, and others with which it may go on, up to where the form is whole
+pub data Begins : Unsupported → Config → List Token → Type 0 where
+  at_once : {u : Unsupported} {c : Config} {ts : List Token} → Stops u c ts → Begins u c ts
+  proto : {t colon : Token} {w l : Loc} {ss : List Slot} {ps : List Piece} {fs : List Frame} {ts : List Token} → is_proto_word t.kind ≡ true → is_mark P.Colon colon ≡ true → Begins Proto (Due slot.ObjectLiteral w (By slot.Properties ∷ ss) ps l fs) (t ∷ colon ∷ ts)
+  -- a target in parentheses: the whole left side of an assignment or an update, and the target of a `for`
+  target_before : {c : Config} {i : ℕ} {e : Expr} {l : Loc} {t : Token} {te : List Token} (f : Frame) (fs : List Frame) (sign : Token) (ts : List Token) → turn c t ≡ want t (f ∷ fs) → fits (wanted f) i e ≡ true → Spells (AnExpr i e) l (t ∷ te) sign →
+      is_parenthesized_target e ≡ true → assigns (join sign) ≡ true → continues (wanted f) e sign ≡ true → Begins ParenthesizedTarget c (t ∷ (te ++ sign ∷ ts))
   target_in_head : {i : ℕ} {e : Expr} {w l m : Loc} {fs : List Frame} {t : Token} {te : List Token} (word : Token) (ts : List Token) → turn (in_head w l fs) t ≡ want t (of_head w fs) → fits (WithoutIn any) i e ≡ true → Spells (AnExpr i e) m (t ∷ te) word →
-      is_parenthesized_target e ≡ true → is_each word ≡ true → Stops ParenthesizedTarget (in_head w l fs) (t ∷ (te ++ word ∷ ts))
+      is_parenthesized_target e ≡ true → is_each word ≡ true → Begins ParenthesizedTarget (in_head w l fs) (t ∷ (te ++ word ∷ ts))
   -- a literal that is the whole left side of `=`, and one that is the target of a `for`
   literal : {c : Config} {i : ℕ} {e : Expr} {l : Loc} {t : Token} {te : List Token} (f : Frame) (fs : List Frame) (sign : Token) (ts : List Token) → turn c t ≡ want t (f ∷ fs) → fits (wanted f) i e ≡ true → Spells (AnExpr i e) l (t ∷ te) sign →
-      is_literal_pattern e ≡ true → is_mark P.Assign sign ≡ true → continues (wanted f) e sign ≡ true → Stops BindingPattern c (t ∷ (te ++ sign ∷ ts))
+      is_literal_pattern e ≡ true → is_mark P.Assign sign ≡ true → continues (wanted f) e sign ≡ true → Begins BindingPattern c (t ∷ (te ++ sign ∷ ts))
   literal_in_head : {i : ℕ} {e : Expr} {w l m : Loc} {fs : List Frame} {t : Token} {te : List Token} (word : Token) (ts : List Token) → turn (in_head w l fs) t ≡ want t (of_head w fs) → fits (WithoutIn any) i e ≡ true → Spells (AnExpr i e) m (t ∷ te) word →
-      is_literal_pattern e ≡ true → is_each word ≡ true → Stops BindingPattern (in_head w l fs) (t ∷ (te ++ word ∷ ts))
-
--- all of them: those, and others of which that isn't proved
-pub data Begins : Unsupported → Config → List Token → Type 0 where
-  surely : {u : Unsupported} {c : Config} {ts : List Token} → Stops u c ts → Begins u c ts
-  async_of : {c : Config} {t : Token} {ts : List Token} (name arrow : Token) → is_word (codes "async") t ≡ true → at_any_name c ≡ false → (is_word (codes "let") name || is_word (codes "of") name) ≡ true → name.line_terminator_before ≡ false → is_mark P.Arrow arrow ≡ true →
-      Begins Async c (t ∷ name ∷ arrow ∷ ts)
-  async_arguments : {c : Config} {t : Token} {b : Bool} {xs : Exprs} {tx : List Token} (opening closing arrow : Token) (ts : List Token) → is_word (codes "async") t ≡ true → at_any_name c ≡ false → is_mark P.OpenParenthesis opening ≡ true →
-      opening.line_terminator_before ≡ false → SpellsItems b xs tx closing → is_mark P.CloseParenthesis closing ≡ true → is_mark P.Arrow arrow ≡ true → Begins Async c (t ∷ opening ∷ (tx ++ closing ∷ arrow ∷ ts))
-  this_outside : {c : Config} {t : Token} {ts : List Token} → is_word (codes "this") t ≡ true → at_any_name c ≡ false → in_function (frames_of c) ≡ false → Begins ThisOutside c (t ∷ ts)
+      is_literal_pattern e ≡ true → is_each word ≡ true → Begins BindingPattern (in_head w l fs) (t ∷ (te ++ word ∷ ts))
+  -- `this` where an expression begins in no function
+  this_outside : {c : Config} {t : Token} {ts : List Token} (fs : List Frame) → turn c t ≡ want t fs → is_word (codes "this") t ≡ true → in_function fs ≡ false → Begins ThisOutside c (t ∷ ts)

@@ -2,7 +2,7 @@
 //! Each law on the definitions is a clause of a small function's contract.
 #![tactic(auto)]
 
-ghost use Rattle.js_reading.specs.Laws.{ReadsEachSentence, ReadsNothingElse, HasOneTree, StopsAtDead, CountsTrees, BeginsLevels, AsksForEach, StopsAtLeftOut};
+ghost use Rattle.js_reading.specs.Laws.{ReadsEachSentence, ReadsNothingElse, HasOneTree, StopsAtDead, CountsTrees, BeginsLevels, AsksForEach, StopsAtLeftOut, StopsTheRun, FindsThis, TextHasOneTree};
 
 mod choice;
 mod class;
@@ -15,7 +15,8 @@ pub use form::Form;
 /// The machine reads each sentence as its tree and nothing else, a list of tokens has one tree at most, and where the machine
 /// stops no sentence begins so. What a place counts as levels is in each tree that it leads to, and the tokens so far begin them.
 /// Each token that is read is one for the goal with which it is asked for. No sentence
-/// goes on with what begins a form that is left out, of those in `Stops`.
+/// goes on with what begins a form that is left out, and where a few tokens tell it the machine stops at them; a `this`
+/// that is no name is found where an expression begins. A text has one tree at most.
 pub fn language()
     ensures reads { ReadsEachSentence }
     ensures nothing_else { ReadsNothingElse }
@@ -25,4 +26,7 @@ pub fn language()
     ensures begins { BeginsLevels }
     ensures asks { AsksForEach }
     ensures left_out { StopsAtLeftOut }
+    ensures told { StopsTheRun }
+    ensures finds_this { FindsThis }
+    ensures text { TextHasOneTree }
 {}

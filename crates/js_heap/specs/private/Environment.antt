@@ -3,7 +3,7 @@ use Rattle.std.specs.Prelude.{ℕ, [], ◌∷◌, ◌++◌}
 use Rattle.js_value.specs.declared.value.Value.{Value}
 use Rattle.js_value.specs.State as state
 use Rattle.js_value.specs.Environments as environments
-use Rattle.js_heap.specs.private.Bindings.{binding_among, with_initialized_among, with_assigned_among}
+use Rattle.js_heap.specs.private.Bindings.{with_initialized_among, with_assigned_among}
 
 -- the environment with one more name
 abbrev pub with_declared : state.Binding → state.Environment → state.Environment
@@ -12,10 +12,6 @@ with_declared binding e = record e { bindings = e.bindings ++ binding ∷ [] }
 -- the cell at a place of an environment
 abbrev pub cell_at : ℕ → ℕ → environments.Cell
 cell_at e place = record { environment = e; place = place }
-
--- the name at a place
-abbrev pub binding_in : state.Environment → ℕ → state.Binding
-binding_in e place = binding_among e.bindings place
 
 -- the environment whose name at a place has its first value
 abbrev pub with_initialized : ℕ → Value → state.Environment → state.Environment

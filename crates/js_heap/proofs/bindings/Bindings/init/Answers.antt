@@ -10,10 +10,9 @@ use Rattle.js_heap.proofs.bindings.Bindings.init.Goals as goal
 pub invariant_of-self : goal.invariant_of-self
 invariant_of-self c =
     let b = c.in-Some.binding.now in
-    let x : Binding = record { name = b.name; value = Some c.args.value; constant = b.constant } in
-    let names = map-set_same (λ (b : Binding). b.name) c.args.self.now.items.items c.args.place c.args.place x b b.name refl c.in-Some.ensures.item.3.0 c.in-Some.ensures.value refl in
+    let names = map-set_same (λ (b : Binding). b.name) c.args.self.now.items.items c.args.place c.args.place c.init.new.self b b.name refl c.in-Some.ensures.item.3.0 c.in-Some.ensures.value c.init.ensures.name in
     record { indexed = λ i is q. c.args.self.now.indexed i is q ∙ ap (position (λ n. bytes_eq n q)) (sym names) }
 
 pub returns-in-Some : goal.returns-in-Some
 returns-in-Some c =
-    map-set_by plain_binding (λ (b : state.Binding). record b { value = Some c.args.value }) c.args.self.now.items.items c.args.place _ _ _ no_binding refl c.in-Some.ensures.item.3.0 c.in-Some.ensures.value refl
+    map-set_by plain_binding (λ (b : state.Binding). record b { value = Some c.args.value }) c.args.self.now.items.items c.args.place _ c.init.new.self _ no_binding refl c.in-Some.ensures.item.3.0 c.in-Some.ensures.value c.init.ensures.after

@@ -11,10 +11,12 @@ pub returns-in-Some-clause-ok : goal.returns-in-Some-clause-ok
 returns-in-Some-clause-ok c =
     OnOk_then c.append.result c.append.ensures.ok (λ more.
     ap (λ os. record (heap_of c.args.self.now) { objects = os })
-    (map-set_by plain_object (with_more c.args.more) c.args.self.now.objects.items _ _ c.append.new.self _ no_object c.index.ensures c.in-Some.ensures.item.3.0 c.in-Some.ensures.value more))
+    (map-set_by plain_object (with_more c.args.more) c.args.self.now.objects.items _ _ _ _ no_object c.index.ensures c.in-Some.ensures.item.3.0 c.in-Some.ensures.value
+    (ap (λ es. record (plain_object c.in-Some.record.now) { elements = es }) more)))
 
 pub returns-in-Some-clause-err : goal.returns-in-Some-clause-err
 returns-in-Some-clause-err c =
     OnErr_then c.append.result c.append.ensures.err (λ kept.
     ap (λ os. record (heap_of c.args.self.now) { objects = os })
-    (map-set_same plain_object c.args.self.now.objects.items _ _ c.append.new.self _ no_object c.index.ensures c.in-Some.ensures.item.3.0 c.in-Some.ensures.value kept))
+    (map-set_same plain_object c.args.self.now.objects.items _ _ _ _ no_object c.index.ensures c.in-Some.ensures.item.3.0 c.in-Some.ensures.value
+    (ap (λ es. record (plain_object c.in-Some.record.now) { elements = es }) kept)))

@@ -9,4 +9,5 @@ use Rattle.js_heap.proofs.heap.Heap.cut.Goals as goal
 pub returns-in-Some : goal.returns-in-Some
 returns-in-Some c =
     ap (λ os. record (heap_of c.args.self.now) { objects = os })
-    (map-set_by plain_object (with_cut c.args.size) c.args.self.now.objects.items _ _ c.cut.new.self _ no_object c.index.ensures c.in-Some.ensures.item.3.0 c.in-Some.ensures.value c.cut.ensures)
+    (map-set_by plain_object (with_cut c.args.size) c.args.self.now.objects.items _ _ _ _ no_object c.index.ensures c.in-Some.ensures.item.3.0 c.in-Some.ensures.value
+    (ap (λ es. record (plain_object c.in-Some.record.now) { elements = es }) c.cut.ensures))

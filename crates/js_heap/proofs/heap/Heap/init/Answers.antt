@@ -9,4 +9,5 @@ use Rattle.js_heap.proofs.heap.Heap.init.Goals as goal
 pub returns-in-Some : goal.returns-in-Some
 returns-in-Some c =
     ap (λ es. record (heap_of c.args.self.now) { environments = es })
-    (map-set_by plain_environment (with_initialized c.args.cell.place c.args.value) c.args.self.now.environments.items _ _ c.init.new.self _ no_environment c.index.ensures c.in-Some.ensures.item.3.0 c.in-Some.ensures.value c.init.ensures)
+    (map-set_by plain_environment (with_initialized c.args.cell.place c.args.value) c.args.self.now.environments.items _ _ _ _ no_environment c.index.ensures c.in-Some.ensures.item.3.0 c.in-Some.ensures.value
+    (ap (λ bs. record (plain_environment c.in-Some.environment.now) { bindings = bs }) c.init.ensures))

@@ -10,4 +10,4 @@ pub returns-in-Some-clause-ok : goal.returns-in-Some-clause-ok
 returns-in-Some-clause-ok c =
     ap (λ os. record (heap_of c.args.self.now) { objects = os })
     (map-set_by plain_object (λ (o : state.ObjectRecord). record o { elements = c.args.elements }) c.args.self.now.objects.items _ _ _ _ no_object c.index.ensures c.in-Some.ensures.item.3.0 c.in-Some.ensures.value
-    (ap (λ es. record (plain_object c.in-Some.record.now) { elements = es }) c.in_ok-elements.ensures))
+    (ap (λ es. record (plain_object c.in-Some.record.now) { elements = es }) c.new-elements.ensures))

@@ -1,6 +1,7 @@
 use Rattle.std.proofs.Common.{map, sym, ap, ◌∙◌}
 use Rattle.js_heap.specs.Object.{plain_property}
 use Rattle.js_heap.proofs.ObjectLemmas.{keys-kept, with_property-placed, with_property-absent}
+use Rattle.js_heap.proofs.Outcomes.{OnOk_then}
 use Rattle.js_heap.proofs.properties.Properties.define.Goals as goal
 
 pub invariant_of-self : goal.invariant_of-self
@@ -14,6 +15,7 @@ pub returns-in-Some-clause-ok : goal.returns-in-Some-clause-ok
 returns-in-Some-clause-ok c =
     sym (with_property-placed c.args.property c.args.self.now.items.items c.in-Some.place (sym c.in-Some.ensures))
 
-pub returns-in_ok-push-in-None-clause-ok : goal.returns-in_ok-push-in-None-clause-ok
-returns-in_ok-push-in-None-clause-ok c =
-    ap (map plain_property) c.in_ok-push-in-None.ensures.ok ∙ sym (with_property-absent c.args.property c.args.self.now.items.items (sym c.in-None.ensures))
+pub returns-in-None-clause-ok : goal.returns-in-None-clause-ok
+returns-in-None-clause-ok c =
+    OnOk_then c.push.result c.push.ensures.ok (λ pushed.
+    ap (map plain_property) pushed ∙ sym (with_property-absent c.args.property c.args.self.now.items.items (sym c.in-None.ensures)))

@@ -1,0 +1,20 @@
+//! The reader's stack and its turn: the machine of the grammar, as code.
+#![tactic(auto)]
+
+mod goal;
+mod have;
+mod leave;
+mod left;
+mod parts;
+mod pass;
+mod place;
+mod production;
+mod reader;
+mod refused;
+mod stack;
+mod start;
+mod take;
+mod turn;
+
+pub use reader::Reader;
+pub use refused::Refusal;
