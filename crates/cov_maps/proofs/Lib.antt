@@ -1,4 +1,3 @@
 pub mod AllNamed
 pub mod NodePlaces
-pub mod Placed
 pub mod Sample

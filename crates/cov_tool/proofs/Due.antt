@@ -1,7 +1,7 @@
 -- From what came of the work on a source to the status, the output and the line that are due.
 use Rattle.std.proofs.Common.{◌≡◌, ℕ, ◌⊎◌, inl, inr, List, Option, None, Some, IsSome, refl, sym, ap, ◌∙◌, subst, arith}
 use Rattle.std.specs.Prelude.{option_map}
-use Rattle.js_text.specs.Reads.{Reads}
+use Rattle.js_reading.specs.Reads.{Reads}
 use Rattle.js_meaning.specs.declared.outcome.End.{End}
 use Rattle.js_meaning.specs.declared.outcome.End.TheVariants as outcome
 use Rattle.cov_base.specs.Store.{Held}
@@ -75,7 +75,7 @@ module _ (task : SourceTask) (file : List ℕ) (told : Option Held) where
       IsSaid (Some (OnSource task file)) told message
   is_said_by {message = message} stands is = record { stands = stands; are = is_line (status_of message) message is }
 
-  pub fault_is_said : (why : Fault) → IsCause why told file → {message : said.Message} → message ≡ message_at why file → IsSaid (Some (OnSource task file)) told message
+  pub fault_is_said : (why : Fault) → IsCause why task told file → {message : said.Message} → message ≡ message_at why file → IsSaid (Some (OnSource task file)) told message
   fault_is_said why cause e =
       subst (IsSaid (Some (OnSource task file)) told) (sym e)
       (is_said_by
@@ -157,7 +157,7 @@ module _ (task : SourceTask) (file : List ℕ) (told : Option Held) where
   prints_prefix before after (nothing same) tells output is = (0, omega arith, same ∙ after_nothing before)
   prints_prefix before after (some {bytes = bytes} {tree = tree} held accepted only takes) tells output (S.accepted {bytes = others} {tree = other} a) =
       let contents : bytes ≡ others = one_content told tells held a.held in
-      let trees : tree ≡ other = sym (only other (subst (λ bs. Reads bs other) (sym contents) a.accepted.reads)) in
+      let trees : tree ≡ other = sym (only other (subst (λ bs. Reads bs other) (sym contents) a.accepted.source.reads)) in
       subst (λ text. TakesPrefix before after text)
       (ap (λ bs. (answer_of task file bs tree).output) contents ∙ ap (λ t. (answer_of task file others t).output) trees) takes
     where

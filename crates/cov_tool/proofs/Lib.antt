@@ -1,3 +1,4 @@
+pub mod Answered
 pub mod Due
 pub mod Faults
 pub mod Fits

@@ -3,9 +3,9 @@ use Rattle.std.proofs.Common.{◌≡◌, ℕ, List, sym, subst}
 use Rattle.js_tree.specs.Plain.{File}
 use Rattle.js_tree.specs.declared.construct.Construct.{Construct}
 use Rattle.js_walk.specs.Constructs.{constructs_file}
-use Rattle.js_text.specs.Reads.{Reads}
+use Rattle.js_reading.specs.Reads.{Reads}
+use Rattle.js_reading.proofs.PlacedTexts.{reads_placed}
 use Rattle.cov_maps.specs.Placed.{ArePlaced}
-use Rattle.cov_maps.proofs.Placed.{reads_placed}
 
 pub placed : {text : List ℕ} {tree : File} {list : List Construct} → Reads text tree → list ≡ constructs_file tree → ArePlaced list
-placed reads same = subst ArePlaced (sym same) (reads_placed reads)
+placed {text = text} {tree = tree} reads same = subst ArePlaced (sym same) (reads_placed text tree reads)

@@ -8,6 +8,11 @@ use Rattle.cov_report.specs.Percent.{percent_text}
 use Rattle.cov_inputs.specs.declared.refusal.What.{What}
 use Rattle.cov_inputs.specs.declared.refusal.What.TheVariants as what
 use Rattle.js_tree.specs.declared.place.Pos.{Pos}
+use Rattle.js_reading.specs.declared.unsupported.Unsupported.{Unsupported}
+use Rattle.js_reading.specs.declared.unsupported.Unsupported.TheVariants as form
+use Rattle.js_scopes.specs.declared.fault.ScopeFault.{ScopeFault}
+use Rattle.js_scopes.specs.declared.fault.ScopeFaultKind.{ScopeFaultKind}
+use Rattle.js_scopes.specs.declared.fault.ScopeFaultKind.TheVariants as rule
 use Rattle.js_value.specs.declared.value.Kind.{Kind}
 use Rattle.js_value.specs.declared.value.Kind.TheVariants as kind
 use Rattle.cov_tool.specs.declared.line.Complaint.{Complaint}
@@ -17,8 +22,10 @@ use Rattle.cov_tool.specs.declared.line.Complaint.TheVariants as complaint
 pub data Message : Type 0 where
   Usage : Message
   Syntax : (path : List ℕ) → (place : Pos) → Message
+  LeftOut : (path : List ℕ) → (place : Pos) → (what : Unsupported) → Message
   TooDeep : (path : List ℕ) → (place : Pos) → Message
-  Reserved : (path : List ℕ) → (place : Pos) → Message
+  Broken : (path : List ℕ) → (fault : ScopeFault) → Message
+  NotRun : (path : List ℕ) → (place : Pos) → Message
   NotUtf8 : (path : List ℕ) → (at : ℕ) → Message
   ReadFailed : (path : List ℕ) → Message
   WriteFailed : Message
@@ -36,8 +43,10 @@ pub data Message : Type 0 where
 abbrev pub message_of : Complaint → Message
 message_of complaint.Usage = Usage
 message_of (complaint.Syntax path place) = Syntax path.now place
+message_of (complaint.Unsupported path place form) = LeftOut path.now place form
 message_of (complaint.TooDeep path place) = TooDeep path.now place
-message_of (complaint.Reserved path place) = Reserved path.now place
+message_of (complaint.Broken path fault) = Broken path.now fault
+message_of (complaint.NotRun path place) = NotRun path.now place
 message_of (complaint.NotUtf8 path at) = NotUtf8 path.now at
 message_of (complaint.ReadFailed path) = ReadFailed path.now
 message_of complaint.WriteFailed = WriteFailed
@@ -54,6 +63,37 @@ message_of (complaint.Below shortfalls) = Below shortfalls.now
 -- a file is refused at a place, for this reason
 abbrev pub refused_text : List ℕ → Pos → List ℕ → List ℕ
 refused_text path place why = codes "Refused: " ++ path ++ codes ":" ++ decimal place.line ++ codes ":" ++ decimal place.column ++ codes ": " ++ why
+
+-- the words for a form that the language leaves out
+abbrev pub form_text : Unsupported → List ℕ
+form_text form.ClassForm = codes "class"
+form_text form.Super = codes "super"
+form_text form.Import = codes "import"
+form_text form.Export = codes "export"
+form_text form.NewTarget = codes "new.target"
+form_text form.Spread = codes "spread"
+form_text form.OptionalChain = codes "optional chain"
+form_text form.LogicalAssignment = codes "logical assignment"
+form_text form.Async = codes "async"
+form_text form.Generator = codes "generator"
+form_text form.Accessor = codes "accessor"
+form_text form.BigIntLiteral = codes "bigint"
+form_text form.ThisOutside = codes "this"
+form_text form.Elision = codes "elision"
+form_text form.Proto = codes "__proto__"
+form_text form.TaggedTemplate = codes "tagged template"
+form_text form.ParenthesizedTarget = codes "parenthesised target"
+form_text form.BindingPattern = codes "pattern"
+
+-- the words for an early rule that is broken; want of memory is none
+abbrev pub rule_text : ScopeFaultKind → List ℕ
+rule_text rule.Duplicate = codes "duplicate"
+rule_text rule.Label = codes "label"
+rule_text rule.BreakOutside = codes "break outside"
+rule_text rule.ContinueOutside = codes "continue outside"
+rule_text rule.BadTarget = codes "bad target"
+rule_text rule.Reserved = codes "reserved"
+rule_text rule.Memory = []
 
 -- the word for what a program leaves the profile by
 abbrev pub kind_text : Kind → List ℕ
@@ -88,8 +128,10 @@ shortfall_line shortfall = shortfall_text shortfall ++ 10 ∷ []
 abbrev pub text : Message → List ℕ
 text Usage = codes "Usage: see cov --help"
 text (Syntax path place) = refused_text path place (codes "syntax")
+text (LeftOut path place what) = refused_text path place (codes "unsupported " ++ form_text what)
 text (TooDeep path place) = refused_text path place (codes "too deep")
-text (Reserved path place) = refused_text path place (codes "reserved")
+text (Broken path fault) = refused_text path fault.at (rule_text fault.kind)
+text (NotRun path place) = refused_text path place (codes "unsupported not run yet")
 text (NotUtf8 path at) = codes "Refused: " ++ path ++ codes ": not UTF-8 at byte " ++ decimal at
 text (ReadFailed path) = codes "Read failed: " ++ path
 text WriteFailed = codes "Write failed"

@@ -16,8 +16,14 @@ fn status_of(complaint: &Complaint<'_>) -> Status
     match complaint {
         Complaint::Usage => Status::Usage,
         Complaint::Syntax { path: _, place: _ }
+        | Complaint::Unsupported {
+            path: _,
+            place: _,
+            form: _,
+        }
         | Complaint::TooDeep { path: _, place: _ }
-        | Complaint::Reserved { path: _, place: _ }
+        | Complaint::Broken { path: _, fault: _ }
+        | Complaint::NotRun { path: _, place: _ }
         | Complaint::NotUtf8 { path: _, at: _ } => Status::Refused,
         Complaint::ReadFailed { path: _ } => Status::ReadFault,
         Complaint::WriteFailed => Status::WriteFault,

@@ -1,30 +1,39 @@
-ghost use Rattle.std.specs.Prelude.{◌≡◌, IfOk};
+ghost use Rattle.std.specs.Prelude.{◌≡◌, None, IfOk, IfErr, OnOk};
 ghost use Rattle.js_tree.specs.Tree.{plain_file};
-ghost use Rattle.js_text.specs.Reads.{Reads};
+ghost use Rattle.js_meaning.specs.Unsaid as unsaid;
+ghost use Rattle.cov_run.specs.Exec.{run_of};
 ghost use Rattle.cov_words.specs.declared.command.SourceTask.TheVariants.{Exec};
-ghost use Rattle.cov_tool.specs.Source.{answer_of};
+ghost use Rattle.cov_tool.specs.Source.{answer_of_run};
+ghost use Rattle.cov_tool.specs.private.Cause.{IsTaskFault};
 
 use crate::answer::Answer;
+use crate::fault::Fault;
 use cov_run::Ran;
-use items::Memory;
-use js_meaning::language;
+use js_meaning::{language, not_run};
 use js_scopes::Checked;
-use js_text::Text;
+use js_tree::Pos;
 use std::alloc::Global;
 
-/// The answer of `exec`: what the program printed, and how it ended. A text that was read is one
-/// whose meaning is said, which is all that the text is needed for.
-pub(crate) fn exec(
-    alloc: Global,
-    turns: u64,
-    path: &str,
-    text: &Text,
-    file: Checked,
-) -> Result<Answer, Memory>
-    requires { Reads text.now (plain_file file) }
-    ensures { IfOk result (λ answer. answer ≡ answer_of (Exec turns) path.now text.now (plain_file file)) }
+/// The first statement of a file that isn't run yet.
+fn not_run_in(file: &Checked) -> Option<Pos>
+    ensures { result ≡ unsaid.not_run (plain_file file.now) }
+{
+    not_run(file.file())
+}
+
+/// The answer of `exec`: what the program printed, and how it ended, unless a statement of it isn't
+/// run yet.
+pub(crate) fn exec(alloc: Global, turns: u64, path: &str, file: Checked) -> Result<Answer, Fault>
+    ensures answer { IfOk result (λ answer. answer ≡ answer_of_run (run_of path.now (plain_file file) turns)) }
+    ensures runs { OnOk result (unsaid.not_run (plain_file file) ≡ None) }
+    ensures fault { IfErr result (λ why. IsTaskFault why (Exec turns) (plain_file file)) }
 {
     language();
-    let Ran { end, output } = cov_run::exec(alloc, path, file, turns)?;
-    Ok(Answer { output, end })
+    match not_run_in(&file) {
+        Some(at) => Err(Fault::NotRun { at }),
+        None => {
+            let Ran { end, output } = cov_run::exec(alloc, path, file, turns)?;
+            Ok(Answer { output, end })
+        }
+    }
 }

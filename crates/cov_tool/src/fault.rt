@@ -1,6 +1,8 @@
 ghost use Rattle.std.specs.Prelude.{◌≡◌};
 
 use crate::line::Complaint;
+use js_parser::Unsupported;
+use js_scopes::ScopeFault;
 use js_tree::Pos;
 use std::alloc::AllocError;
 
@@ -17,10 +19,14 @@ pub(crate) enum Fault {
     NotUtf8 { at: usize },
     /// The token here, or what is none, is out of place.
     Syntax { at: Pos },
+    /// The token here begins a form that the language leaves out.
+    Unsupported { at: Pos, form: Unsupported },
     /// The tokens before this place begin more levels than a source may have.
     TooDeep { at: Pos },
-    /// The name here is reserved.
-    Reserved { at: Pos },
+    /// An early rule is broken.
+    Broken { fault: ScopeFault },
+    /// The statement here isn't run yet.
+    NotRun { at: Pos },
     /// The answer couldn't be written.
     WriteFailed,
     /// Want of memory.
@@ -41,8 +47,14 @@ impl Fault {
             Fault::TooLong => Complaint::TooLong { path },
             Fault::NotUtf8 { at } => Complaint::NotUtf8 { path, at },
             Fault::Syntax { at } => Complaint::Syntax { path, place: at },
+            Fault::Unsupported { at, form } => Complaint::Unsupported {
+                path,
+                place: at,
+                form,
+            },
             Fault::TooDeep { at } => Complaint::TooDeep { path, place: at },
-            Fault::Reserved { at } => Complaint::Reserved { path, place: at },
+            Fault::Broken { fault } => Complaint::Broken { path, fault },
+            Fault::NotRun { at } => Complaint::NotRun { path, place: at },
             Fault::WriteFailed => Complaint::WriteFailed,
             Fault::OutOfMemory => Complaint::OutOfMemory,
         }

@@ -1,11 +1,13 @@
 ghost use Rattle.std.specs.Prelude.{◌≡◌, ◌++◌, string_bytes, IfOk};
 ghost use Rattle.std.specs.List.{flat_map};
-ghost use Rattle.cov_tool.specs.Line.{line, refused_line, kind_text, metric_text, shortfall_line, what_text, message_of, BadInput, Going, OutOfMemory, NotUtf8, TooLong, Uncaught};
+ghost use Rattle.cov_tool.specs.Line.{line, refused_line, form_text, rule_text, kind_text, metric_text, shortfall_line, what_text, message_of, BadInput, Broken, Going, LeftOut, OutOfMemory, NotUtf8, TooLong, Uncaught};
 
 use cov_inputs::What;
 use cov_report::percent_of;
 use cov_summary::{Metric, Shortfall};
 use items::Memory;
+use js_parser::Unsupported;
+use js_scopes::{ScopeFault, ScopeFaultKind};
 use js_tree::Pos;
 use js_value::Kind;
 use std::alloc::Global;
@@ -16,35 +18,77 @@ pub enum Complaint<'a> {
     /// The words of the command line have no reading.
     Usage,
     /// The file at this path isn't of the language: the token here, or what is none, is out of place.
-    Syntax { path: &'a str, place: Pos },
+    Syntax {
+        path: &'a str,
+        place: Pos,
+    },
+    /// The file at this path has a form that the language leaves out: the token here begins it.
+    Unsupported {
+        path: &'a str,
+        place: Pos,
+        form: Unsupported,
+    },
     /// The file at this path has too many levels: the tokens before this place begin too many.
-    TooDeep { path: &'a str, place: Pos },
-    /// The file at this path has a reserved name here.
-    Reserved { path: &'a str, place: Pos },
+    TooDeep {
+        path: &'a str,
+        place: Pos,
+    },
+    /// The file at this path breaks an early rule.
+    Broken {
+        path: &'a str,
+        fault: ScopeFault,
+    },
+    /// The file at this path has a statement here that isn't run yet.
+    NotRun {
+        path: &'a str,
+        place: Pos,
+    },
     /// The file at this path isn't UTF-8: the fault begins at this byte, counted from 0.
-    NotUtf8 { path: &'a str, at: usize },
+    NotUtf8 {
+        path: &'a str,
+        at: usize,
+    },
     /// The file at this path couldn't be read.
-    ReadFailed { path: &'a str },
+    ReadFailed {
+        path: &'a str,
+    },
     /// The answer couldn't be written.
     WriteFailed,
     /// There wasn't memory enough.
     OutOfMemory,
     /// The file at this path has more bytes than the program takes.
-    TooLong { path: &'a str },
+    TooLong {
+        path: &'a str,
+    },
     /// There is no file at this path.
-    NoFile { path: &'a str },
+    NoFile {
+        path: &'a str,
+    },
     /// An exception wasn't caught: these bytes are shown of it.
-    Uncaught { shown: &'a [u8] },
+    Uncaught {
+        shown: &'a [u8],
+    },
     /// The program left the profile, by this.
-    Range { kind: Kind },
+    Range {
+        kind: Kind,
+    },
     /// The program would go on after so many steps.
-    Going { turns: u64 },
+    Going {
+        turns: u64,
+    },
     /// The file at this path is no coverage file: what is wrong with it.
-    BadInput { path: &'a str, what: &'a What },
+    BadInput {
+        path: &'a str,
+        what: &'a What,
+    },
     /// A sum of counts reaches 2^53: it is this.
-    CountTooLarge { sum: u64 },
+    CountTooLarge {
+        sum: u64,
+    },
     /// These percentages are below their thresholds.
-    Below { shortfalls: &'a [Shortfall] },
+    Below {
+        shortfalls: &'a [Shortfall],
+    },
 }
 
 /// The lines that the program says on standard error, each ended by LF, or want of memory. Only what is
@@ -55,8 +99,14 @@ pub fn line(alloc: Global, complaint: &Complaint<'_>) -> Result<Vec<u8>, Memory>
     match complaint {
         Complaint::Usage => Vec::from_slice(alloc, "Usage: see cov --help\n".as_bytes()),
         Complaint::Syntax { path, place } => refused_line(alloc, path, *place, "syntax"),
+        Complaint::Unsupported { path, place, form } => {
+            unsupported_line(alloc, path, *place, *form)
+        }
         Complaint::TooDeep { path, place } => refused_line(alloc, path, *place, "too deep"),
-        Complaint::Reserved { path, place } => refused_line(alloc, path, *place, "reserved"),
+        Complaint::Broken { path, fault } => broken_line(alloc, path, *fault),
+        Complaint::NotRun { path, place } => {
+            refused_line(alloc, path, *place, "unsupported not run yet")
+        }
         Complaint::NotUtf8 { path, at } => not_utf8_line(alloc, path, *at),
         Complaint::ReadFailed { path } => {
             Ok(format!(in alloc; "Read failed: {path}\n")?.into_bytes())
@@ -85,6 +135,67 @@ fn refused_line(alloc: Global, path: &str, place: Pos, why: &str) -> Result<Vec<
 {
     let Pos { line, column } = place;
     Ok(format!(in alloc; "Refused: {path}:{line}:{column}: {why}\n")?.into_bytes())
+}
+
+/// The line of a file at a path with a form that the language leaves out.
+fn unsupported_line(
+    alloc: Global,
+    path: &str,
+    place: Pos,
+    form: Unsupported,
+) -> Result<Vec<u8>, Memory>
+    ensures { IfOk result (λ bytes. bytes.items ≡ line (LeftOut path.now place form)) }
+{
+    let why = named(alloc, "unsupported ", form_text(form))?;
+    refused_line(alloc, path, place, why.as_str())
+}
+
+/// The words for a form that the language leaves out.
+fn form_text(form: Unsupported) -> &'static str
+    ensures { result.now ≡ form_text form }
+{
+    match form {
+        Unsupported::ClassForm => "class",
+        Unsupported::Super => "super",
+        Unsupported::Import => "import",
+        Unsupported::Export => "export",
+        Unsupported::NewTarget => "new.target",
+        Unsupported::Spread => "spread",
+        Unsupported::OptionalChain => "optional chain",
+        Unsupported::LogicalAssignment => "logical assignment",
+        Unsupported::Async => "async",
+        Unsupported::Generator => "generator",
+        Unsupported::Accessor => "accessor",
+        Unsupported::BigIntLiteral => "bigint",
+        Unsupported::ThisOutside => "this",
+        Unsupported::Elision => "elision",
+        Unsupported::Proto => "__proto__",
+        Unsupported::TaggedTemplate => "tagged template",
+        Unsupported::ParenthesizedTarget => "parenthesised target",
+        Unsupported::BindingPattern => "pattern",
+    }
+}
+
+/// The line of a file at a path that breaks an early rule.
+fn broken_line(alloc: Global, path: &str, fault: ScopeFault) -> Result<Vec<u8>, Memory>
+    ensures { IfOk result (λ bytes. bytes.items ≡ line (Broken path.now fault)) }
+{
+    refused_line(alloc, path, fault.at, rule_text(fault.kind))
+}
+
+/// The words for an early rule that is broken; want of memory is none.
+fn rule_text(kind: ScopeFaultKind) -> &'static str
+    ensures { result.now ≡ rule_text kind }
+{
+    match kind {
+        ScopeFaultKind::Duplicate => "duplicate",
+        ScopeFaultKind::Label => "label",
+        ScopeFaultKind::BreakOutside => "break outside",
+        ScopeFaultKind::ContinueOutside => "continue outside",
+        ScopeFaultKind::BadTarget => "bad target",
+        ScopeFaultKind::Reserved => "reserved",
+        ScopeFaultKind::Memory => "",
+    }
 }
 
 /// The line of a file at a path that isn't UTF-8 from this byte on.

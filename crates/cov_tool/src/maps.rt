@@ -1,7 +1,7 @@
 ghost use Rattle.std.specs.Prelude.{◌≡◌, IfOk};
 ghost use Rattle.js_tree.specs.Tree.{plain_file};
 ghost use Rattle.js_walk.specs.Constructs.{constructs_file};
-ghost use Rattle.js_text.specs.Reads.{Reads};
+ghost use Rattle.js_reading.specs.Reads.{Reads};
 ghost use Rattle.cov_maps.specs.Placed.{ArePlaced};
 ghost use Rattle.cov_words.specs.declared.command.SourceTask.TheVariants.{Maps};
 ghost use Rattle.cov_tool.specs.Source as spec;

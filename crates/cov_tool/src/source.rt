@@ -1,12 +1,12 @@
-ghost use Rattle.std.specs.Prelude.{◌≡◌, ◌≤◌, length, IfOk, IfErr, OnOk, Some, None};
+ghost use Rattle.std.specs.Prelude.{◌≡◌, ◌≤◌, length, IfOk, IfErr, OnOk, Some, None, false};
 ghost use Rattle.std.specs.Str.{IsUtf8};
 ghost use Rattle.js_tree.specs.Tree.{plain_file};
 ghost use Rattle.js_tree.specs.Height.{height_file};
 ghost use Rattle.js_text.specs.Limits.{source_limits};
-ghost use Rattle.js_text.specs.Reads.{Reads};
+ghost use Rattle.js_reading.specs.Reads.{Reads};
 ghost use Rattle.js_parser.specs.Refused.{RefusesText};
 ghost use Rattle.js_scopes.specs.Accepted.{Accepted};
-ghost use Rattle.js_scopes.specs.Checks.{first_reserved};
+ghost use Rattle.js_scopes.specs.Checks.{first_fault};
 ghost use Rattle.cov_base.specs.Causes.{Rose};
 ghost use Rattle.cov_tool.specs.Source.{Holds};
 ghost use Rattle.cov_tool.specs.private.Cause.{HasOnly, IsReadingFault, IsBytesFault, IsCheckFault};
@@ -14,7 +14,7 @@ ghost use Rattle.cov_tool.specs.private.Cause.{HasOnly, IsReadingFault, IsBytesF
 use crate::fault::Fault;
 use cov_base::{Failed, Store};
 use js_parser::{Refusal, Refused, parse};
-use js_scopes::{Checked, ScopeFault, ScopeFaultKind, check};
+use js_scopes::{Checked, ScopeFaultKind, check};
 use js_text::{Limits, Text, TextFault};
 use js_tree::File;
 use std::alloc::Global;
@@ -60,6 +60,7 @@ fn fault_of(text: &Text, refused: Refused) -> Fault
     let at = text.position(refused.at);
     match refused.why {
         Refusal::Syntax => Fault::Syntax { at },
+        Refusal::Unsupported(form) => Fault::Unsupported { at, form },
         Refusal::TooDeep => Fault::TooDeep { at },
         Refusal::Memory => Fault::OutOfMemory,
     }
@@ -83,14 +84,14 @@ fn file_of(alloc: Global, text: &Text) -> Result<File, Fault>
 /// The file, where it breaks no early rule.
 fn checked_of(alloc: Global, file: File) -> Result<Checked, Fault>
     ensures file { IfOk result (λ checked. checked ≡ file) }
-    ensures unbroken { OnOk result (first_reserved (plain_file file) ≡ None) }
+    ensures unbroken { OnOk result (first_fault false (plain_file file) ≡ None) }
     ensures fault { IfErr result (λ why. IsCheckFault why (plain_file file)) }
 {
     match check(alloc, file) {
         Ok(checked) => Ok(checked),
-        Err((_, ScopeFault { at, kind })) => match kind {
-            ScopeFaultKind::Reserved => Err(Fault::Reserved { at }),
+        Err((_, fault)) => match fault.kind {
             ScopeFaultKind::Memory => Err(Fault::OutOfMemory),
+            _ => Err(Fault::Broken { fault }),
         },
     }
 }

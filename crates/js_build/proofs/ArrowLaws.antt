@@ -5,7 +5,7 @@ use Rattle.js_tree.specs.declared.place.Loc.{Loc}
 use Rattle.js_tree.specs.Plain.{Expr, Exprs, no_expr, more_expr, Param, Params, no_param, more_param, push_params}
 use Rattle.js_tree.specs.Plain as tree
 use Rattle.js_tree.specs.Height.{height_expr, height_exprs, height_param, height_params}
-use Rattle.js_text.specs.Grammar.{through}
+use Rattle.js_reading.specs.Spans.{through}
 use Rattle.js_reading.specs.Slots.{Piece, APlace, TheStmts}
 use Rattle.js_reading.specs.Makes.{arrow_of, bare_in, concise, last_level, one_more_param, param_of, params_of, with_directives}
 use Rattle.js_build.specs.Arrows.{default_of}

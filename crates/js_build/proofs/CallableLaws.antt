@@ -5,7 +5,7 @@ use Rattle.js_tree.specs.Plain.{Expr, Param, Params, no_param, more_param, push_
 use Rattle.js_tree.specs.Plain as tree
 use Rattle.js_tree.specs.Height.{height_param, height_params}
 use Rattle.js_reading.specs.Slots.{Piece, AnExpr, AWord, APlace, TheStmts, Missing}
-use Rattle.js_text.specs.Grammar.{through}
+use Rattle.js_reading.specs.Spans.{through}
 use Rattle.js_reading.specs.Makes.{function_of, method_of, method_param, with_directives, with_param}
 use Rattle.js_build.specs.Callables.{braces_of, initializer_of, param_with, prepend}
 

@@ -9,7 +9,7 @@ use Rattle.js_tree.specs.declared.operators.UpdateOperator.{UpdateOperator}
 use Rattle.js_tree.specs.declared.place.Loc.{Loc}
 use Rattle.js_tree.specs.Plain.{Expr, Stmt}
 use Rattle.js_tree.specs.Plain as tree
-use Rattle.js_text.specs.Level.{binary_level, logical_level}
+use Rattle.js_reading.specs.Level.{binary_level, logical_level}
 use Rattle.js_reading.specs.Slots.{Piece, AnExpr, AStmt}
 use Rattle.js_reading.specs.declared.form.Form.TheVariants as form
 use Rattle.js_reading.specs.Makes.{build, is_target}

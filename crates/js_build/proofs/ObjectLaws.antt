@@ -5,7 +5,7 @@ use Rattle.js_tree.specs.Plain.{Expr, Property, PropertyKey, NameKey, StringKey,
 use Rattle.js_tree.specs.Plain as tree
 use Rattle.js_tree.specs.Height.{height_properties, height_property}
 use Rattle.js_tree.proofs.Equations.{property_rolled, property_shorthand, property_key_value, property_method, property_key_name_key, property_key_string_key, property_key_number_key, property_key_computed_key}
-use Rattle.js_text.specs.Grammar.{through}
+use Rattle.js_reading.specs.Spans.{through}
 use Rattle.js_reading.specs.Kinds.{is_keyword}
 use Rattle.js_reading.specs.Slots.{Piece, AnExpr, TheStmts, AWord, AKey, APlace, Missing, IsComputed, IsMethod}
 use Rattle.js_reading.specs.Makes.{after_key, is_proto, length_of, method_of, method_param, method_with, one_more_property, properties_of, property_of, then_properties}

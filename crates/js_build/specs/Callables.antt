@@ -4,7 +4,7 @@ use Rattle.js_tree.specs.declared.place.Loc.{Loc}
 use Rattle.js_tree.specs.Plain.{Expr}
 use Rattle.js_tree.specs.Plain as tree
 use Rattle.js_tree.specs.Tree.{plain_concise_body, plain_expr, plain_function, plain_params, plain_stmts}
-use Rattle.js_text.specs.Grammar.{through}
+use Rattle.js_reading.specs.Spans.{through}
 use Rattle.js_reading.specs.Slots.{Piece, AnExpr, APlace, Missing, TheStmts}
 use Rattle.js_reading.specs.Makes.{bound, method_param}
 use Rattle.js_build.specs.declared.operand.Statements.{Statements}

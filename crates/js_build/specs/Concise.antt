@@ -3,7 +3,7 @@ use Rattle.std.specs.Prelude.{ℕ, Bool, false}
 use Rattle.js_tree.specs.declared.tree.ConciseBody.{ConciseBody}
 use Rattle.js_tree.specs.Plain as tree
 use Rattle.js_tree.specs.Tree.{plain_concise_body}
-use Rattle.js_text.specs.Level.{assignment}
+use Rattle.js_reading.specs.Level.{assignment}
 use Rattle.js_reading.specs.Makes.{bare_in, last_level}
 
 abbrev pub last_of : tree.ConciseBody → ℕ

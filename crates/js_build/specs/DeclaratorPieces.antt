@@ -4,7 +4,7 @@ use Rattle.js_tree.specs.declared.place.Loc.{Loc}
 use Rattle.js_tree.specs.Plain.{Expr, Declarators, no_declarator, more_declarator}
 use Rattle.js_tree.specs.Plain as tree
 use Rattle.js_tree.specs.Tree.{plain_declarator, plain_declarators}
-use Rattle.js_text.specs.Grammar.{through}
+use Rattle.js_reading.specs.Spans.{through}
 use Rattle.js_reading.specs.Slots.{AWord}
 use Rattle.js_reading.specs.Slots as slot
 use Rattle.js_reading.specs.Makes.{bound, one_more_declarator}

@@ -5,7 +5,7 @@ use Rattle.js_tree.specs.Plain.{Expr, MaybeExpr, none_expr, some_expr, Stmts}
 use Rattle.js_tree.specs.Plain as tree
 use Rattle.js_tree.specs.Tree.{plain_case, plain_cases, plain_expr, plain_stmts, plain_template_parts}
 use Rattle.js_reading.specs.Slots.{Piece, AnExpr, TheStmts, APlace}
-use Rattle.js_text.specs.Grammar.{through}
+use Rattle.js_reading.specs.Spans.{through}
 use Rattle.js_build.specs.declared.lists.MadeCase.{MadeCase}
 use Rattle.js_build.specs.declared.lists.MadeCases.{MadeCases}
 use Rattle.js_build.specs.declared.lists.MadeParts.{MadeParts}

@@ -4,7 +4,7 @@ use Rattle.js_tree.specs.declared.place.Loc.{Loc}
 use Rattle.js_tree.specs.Plain.{Expr, PropertyKey, NameKey, ComputedKey, Properties}
 use Rattle.js_tree.specs.Plain as tree
 use Rattle.js_tree.specs.Tree.{plain_expr, plain_properties, plain_property, plain_property_key}
-use Rattle.js_text.specs.Grammar.{through}
+use Rattle.js_reading.specs.Spans.{through}
 use Rattle.js_reading.specs.Kinds.{is_keyword}
 use Rattle.js_reading.specs.Slots.{Piece, AnExpr, AKey, APlace, Missing, IsComputed, IsMethod}
 use Rattle.js_reading.specs.Makes.{is_proto, length_of, properties_of}

@@ -4,7 +4,7 @@ use Rattle.js_tree.specs.declared.place.Loc.{Loc}
 use Rattle.js_tree.specs.Plain.{Expr, Exprs, no_expr, more_expr}
 use Rattle.js_tree.specs.Plain as tree
 use Rattle.js_tree.specs.Tree.{plain_exprs}
-use Rattle.js_text.specs.Grammar.{through}
+use Rattle.js_reading.specs.Spans.{through}
 use Rattle.js_reading.specs.Slots.{Piece, AnExpr, APlace, Missing, TheExprs}
 use Rattle.js_reading.specs.Makes.{arrow_of, comma_of, concise, loc_of, params_of}
 use Rattle.js_build.specs.declared.operand.List as code

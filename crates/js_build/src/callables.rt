@@ -2,7 +2,7 @@ ghost use Rattle.std.specs.Prelude.{◌≡◌, ◌≤◌, ◌∷◌, IfOk, None,
 ghost use Rattle.std.specs.Option.{option_map};
 ghost use Rattle.js_tree.specs.Plain as tree;
 ghost use Rattle.js_tree.specs.Tree.{plain_expr, plain_function, plain_function_body, plain_param, plain_params, plain_stmts};
-ghost use Rattle.js_text.specs.Grammar as grammar;
+ghost use Rattle.js_reading.specs.Spans as spans;
 ghost use Rattle.js_reading.specs.Makes as makes;
 ghost use Rattle.js_reading.specs.Slots.{APlace};
 ghost use Rattle.js_build.specs.Callables.{braces_of, braces_view, callable_view, function_view, initializer_of, initializer_view, param_with, plain_initializer, prepend};
@@ -90,7 +90,7 @@ pub(crate) fn body(
     statements: Statements,
     closing: Loc,
 ) -> Result<MadeBody, Memory>
-    ensures { IfOk result (λ made. plain_function_body made.tree ≡ tree.MakeFunctionBody (Some (grammar.through opening closing)) (makes.with_directives (plain_stmts statements.items))) }
+    ensures { IfOk result (λ made. plain_function_body made.tree ≡ tree.MakeFunctionBody (Some (spans.through opening closing)) (makes.with_directives (plain_stmts statements.items))) }
 {
     let statements = with_directives(alloc, statements)?;
     Ok(MadeBody {

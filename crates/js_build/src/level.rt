@@ -1,5 +1,5 @@
 ghost use Rattle.std.specs.Prelude.{◌≡◌};
-ghost use Rattle.js_text.specs.Level as spec;
+ghost use Rattle.js_reading.specs.Level as spec;
 ghost use Rattle.js_build.specs.Measures as measure;
 
 use js_tree::{BinaryOperator, LogicalOperator};

@@ -1,7 +1,7 @@
 ghost use Rattle.std.specs.Prelude.{◌≡◌, ℕ, Some};
 ghost use Rattle.js_tree.specs.Plain as tree;
 ghost use Rattle.js_tree.specs.Tree.{plain_expr};
-ghost use Rattle.js_text.specs.Level.{binary_level, logical_level};
+ghost use Rattle.js_reading.specs.Level.{binary_level, logical_level};
 ghost use Rattle.js_reading.specs.Makes.{build};
 ghost use Rattle.js_reading.specs.declared.form.Form.TheVariants as form;
 ghost use Rattle.js_build.specs.View.{plain_pieces, Makes, MakesExpr};

@@ -107,8 +107,8 @@ pub fn prelude(alloc: Global) -> Result<Checked, Memory>
     match check(alloc, file) {
         Ok(checked) => Ok(checked),
         Err((_, ScopeFault { at: _, kind })) => match kind {
-            ScopeFaultKind::Reserved => unreachable!(),
             ScopeFaultKind::Memory => Err(AllocError),
+            _ => unreachable!(),
         },
     }
 }

@@ -3,10 +3,10 @@ mod Ends
 mod Grown
 mod Growth
 pub mod Handle
+mod NotRun
 mod Numbered
 mod Once
 mod Read
-mod Said
 mod SaidLinked
 mod Says
 mod Thin

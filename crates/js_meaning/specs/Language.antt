@@ -7,7 +7,6 @@ use Rattle.js_tree.specs.declared.operators.VariableKind.TheVariants as variable
 use Rattle.js_tree.specs.Plain.{Expr, IdentifierReference, NullLiteral, BooleanLiteral, NumericLiteral, StringLiteral, Parenthesized, Call, Binary, Assignment, Entered, Exprs, no_expr, more_expr}
 use Rattle.js_tree.specs.Plain.{Stmt, Directive, Block, VariableDeclaration, Empty, Expression, If, While, EnteredStmt, Stmts, no_stmt, more_stmt, MaybeStmt, none_stmt, some_stmt, entered_none}
 use Rattle.js_tree.specs.Plain.{Declarator, MakeDeclarator, Declarators, no_declarator, more_declarator, MaybeExpr, none_expr, some_expr, File, MakeFile}
-use Rattle.js_text.specs.Reads.{Reads}
 use Rattle.js_value.specs.Operators.{has_answer}
 
 -- what can be assigned to: a name
@@ -75,7 +74,3 @@ abbrev mutual
 
 abbrev pub is_said_file : File → Bool
 is_said_file (MakeFile statements comments) = are_said_stmts statements
-
--- each text that is read so far has a tree whose meaning is said
-abbrev pub SaysAllThatIsRead : Type 0
-SaysAllThatIsRead = (text : List ℕ) (tree : File) → Reads text tree → is_said_file tree ≡ true

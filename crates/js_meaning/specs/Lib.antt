@@ -7,5 +7,6 @@ pub mod Meaning
 pub mod Program
 pub mod Rows
 pub mod Steps
+pub mod Unsaid
 pub mod VarNames
 pub mod World

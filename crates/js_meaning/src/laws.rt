@@ -1,7 +1,7 @@
 ghost use Rattle.js_meaning.specs.Laws.{RunsAsEvaluated, Composes, StopsBefore, ChargesOne, EndsForGood, GoesOn, Follows, TurnsByStep, TurnsAgain, ChoosesArm, NotesConstruct, RunsWithoutCounting, EndsPlainly, SaysWhatIsSaid, SaysTurns, LinksSaid, NamesFunctions};
 ghost use Rattle.js_meaning.specs.Counted.{MarksConstructs, MarksEach, MarksEnter, MarksOnce};
 ghost use Rattle.js_tree.specs.Unmarked.{UnmarksLinked};
-ghost use Rattle.js_meaning.specs.Language.{SaysAllThatIsRead};
+ghost use Rattle.js_meaning.specs.Unsaid.{RunsWhatIsSaid};
 
 /// Of one computation after another, the second has what the first left of its steps.
 pub fn composition()
@@ -38,9 +38,9 @@ pub fn forms()
     ensures arm { ChoosesArm }
 {}
 
-/// The meaning of every tree that is read so far is said: none comes to a form that is not in the language.
+/// The meaning of a file whose statements are all run is said: none comes to a form that is not in the language.
 pub fn language()
-    ensures said { SaysAllThatIsRead }
+    ensures runs { RunsWhatIsSaid }
     ensures says { SaysWhatIsSaid }
     ensures turns { SaysTurns }
     ensures linked { LinksSaid }

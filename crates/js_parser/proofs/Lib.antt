@@ -1,21 +1,5 @@
-mod Words
-mod Levels
-mod Lists
-mod CompleteExpr
-mod Complete
-mod Steps
-mod Floor
-mod Stands
-mod SoundSteps
-mod Sound
-mod Begun
-mod TokenPaths
-mod Ends
-mod Going
-mod Advance
-mod Closing
-mod Reading
-mod Directives
-mod IfNodes
-mod OnStack
-mod Heads
+pub mod Stopping
+pub mod Recalling
+pub mod Searching
+pub mod Offsets
+pub mod Standing

@@ -1,2 +1,3 @@
-pub mod private
+pub mod Recent
 pub mod Refused
+pub mod Turn

@@ -1,24 +1,15 @@
-//! The reader of the grammar: from a source text to its tree.
+//! The reader of JavaScript: from a source text to its tree.
 #![tactic(auto)]
 
-mod after;
-mod begin;
-mod close;
-mod declare;
-mod frame;
-mod have;
-mod join;
-mod level;
-mod make;
-mod need;
-mod place;
-mod prologue;
-mod read;
+mod ask;
+mod comments;
+mod found;
+mod offset;
 mod reader;
+mod recent;
 mod refused;
-mod stack;
-mod turn;
-mod want;
+mod search;
 
+pub use js_reading::Unsupported;
 pub use reader::parse;
 pub use refused::{Refusal, Refused};

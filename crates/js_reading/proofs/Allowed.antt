@@ -10,8 +10,8 @@ use Rattle.js_tree.specs.Plain as tree
 use Rattle.js_text.specs.Token.{Token, Kind}
 use Rattle.js_text.specs.Token as T
 use Rattle.js_text.specs.declared.punctuator.Punctuator.TheVariants as P
-use Rattle.js_text.specs.Level.{assignment}
-use Rattle.js_text.specs.Grammar.{first}
+use Rattle.js_reading.specs.Level.{assignment}
+use Rattle.js_reading.specs.Spans.{first}
 use Rattle.js_reading.specs.Slots.{Wanted, Level, WithoutIn, Slot, Sign, Text, Expr_, Stmt_, Stmts_, Items_, Place_, By, Piece, AnExpr, AStmt, TheStmts, TheExprs, AWord, AText, APlace, Missing, Branch, Refuse, Pass, Go, Form, Choice}
 use Rattle.js_reading.specs.Slots as slot
 use Rattle.js_reading.specs.Productions.{mark, is_mark, slots, form_level, strength, wants, prefix, prefixes, statement, statements, join, joins, as_it_is, after_first}

@@ -11,8 +11,8 @@ use Rattle.js_tree.specs.Plain as tree
 use Rattle.js_text.specs.Token.{Token, Kind, Word, End}
 use Rattle.js_text.specs.Token as T
 use Rattle.js_text.specs.Word.{reserved_word}
-use Rattle.js_text.specs.Level.{assignment, binary_level}
-use Rattle.js_text.specs.Grammar.{through}
+use Rattle.js_reading.specs.Level.{assignment, binary_level}
+use Rattle.js_reading.specs.Spans.{through}
 use Rattle.js_text.specs.declared.punctuator.Punctuator.{Punctuator}
 use Rattle.js_text.specs.declared.punctuator.Punctuator.TheVariants as P
 use Rattle.js_reading.specs.Kinds.{is_kind, is_keyword}
@@ -268,6 +268,11 @@ called_stops (Due g w (Items_ P.CloseParenthesis ∷ ss) ps l gs) {x = x} {xs = 
     ∙ ap (λ o. then_run o (λ d. run d ts)) (none_of (turn (Due g w ss (ps ++ TheExprs x (append_exprs no_expr xs) ∷ []) closing_.loc gs) arrow) (λ d h. pass_arrow arrow a g w ss (ps ++ TheExprs x (append_exprs no_expr xs) ∷ []) closing_.loc gs d (λ p m. have gs p m arrow) c.0
     (λ qs p z. made_arrow arrow a g qs (through w closing_.loc) gs d (λ made. c.2 arrow a p made) c.1 (λ j y le r. have_arrow arrow a gs d c.1 j y (through w closing_.loc) le r) z) h))
 called_stops d closing_ arrow ts c dxs is a = absurd c
+
+-- `=>` after one that is whole
+pub no_arrow_after : {A : Type 0} (g : Form) (t : Token) → Arrow t → brackets g ≡ false → (w : Loc) (ps : List Piece) (l : Loc) (gs : List Frame) (d : Config) → Framed gs → turn (Due g w [] ps l gs) t ≡ Some d → A
+no_arrow_after g t a n w ps l gs d fr h =
+    pass_arrow t a g w [] ps l gs d (λ p m. have gs p m t) refl (λ qs p z. made_arrow t a g qs (through w l) gs d (λ is. n) fr (λ j x le r. have_arrow t a gs d fr j x (through w l) le r) z) h
 
 -- a name, and `(` after it
 abbrev pub named_async : Loc → Expr

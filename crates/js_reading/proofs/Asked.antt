@@ -91,7 +91,7 @@ named_of : (f : Kind × ℕ → Token × Place) → ((k : Kind × ℕ) → (f k)
 named_of f named Q None q x h = absurd cc
 named_of f named Q (Some k) q x h = let e : f k ≡ x = cc in subst (λ (y : Token × Place). Q y.0.kind) e (subst Q (sym (named k)) (q k refl))
 
-later_part : (place : Place) (brace x : Token × Place) → continued place (Some brace) ≡ Some x → is_later x.0.kind ≡ true
+pub later_part : (place : Place) (brace x : Token × Place) → continued place (Some brace) ≡ Some x → is_later x.0.kind ≡ true
 later_part place brace x h = by_part (next_token goal.Template (token_place goal.Div place)) refl h
   where
     by_part : (o : Met) → next_token goal.Template (token_place goal.Div place) ≡ o → option_map (after_gap_of brace.0) o ≡ Some x → is_later x.0.kind ≡ true

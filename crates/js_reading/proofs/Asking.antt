@@ -7,8 +7,8 @@ use Rattle.js_tree.specs.Plain.{Expr, Stmt}
 use Rattle.js_text.specs.Token.{Token, Kind, End}
 use Rattle.js_text.specs.Token as T
 use Rattle.js_text.specs.declared.punctuator.Punctuator.TheVariants as P
-use Rattle.js_text.specs.Level.{any}
-use Rattle.js_text.specs.Grammar.{through}
+use Rattle.js_reading.specs.Level.{any}
+use Rattle.js_reading.specs.Spans.{through}
 use Rattle.js_reading.specs.Kinds.{is_kind}
 use Rattle.js_reading.specs.Slots.{Wanted, Level, WithoutIn, Callee, Slot, Sign, Text, Expr_, Stmt_, Stmts_, Items_, Place_, By, Piece, AnExpr, AStmt, TheExprs, APlace, Missing, Branch, Refuse, Pass, Go, Form, Choice, Class, BoundName, AnyName, Key, FirstText, LaterText}
 use Rattle.js_reading.specs.Slots as slot

@@ -4,7 +4,7 @@ use Rattle.std.proofs.lemmas.Bool.{and_parts}
 use Rattle.js_tree.specs.declared.operators.VariableKind.TheVariants as variable
 use Rattle.js_text.specs.Token.{Token}
 use Rattle.js_text.specs.declared.punctuator.Punctuator.TheVariants as P
-use Rattle.js_text.specs.Level.{any, assignment}
+use Rattle.js_reading.specs.Level.{any, assignment}
 use Rattle.js_reading.specs.Slots.{Level, WithoutIn, BoundName, Key, LaterText, Choice, Slot, Sign, Text, Expr_, Stmt_, Stmts_, Place_, By, Piece, AKind, Missing, IsComputed, IsMethod, IsIn, IsOf, Branch, Refuse, Pass, Go}
 use Rattle.js_reading.specs.Slots as slot
 use Rattle.js_reading.specs.Productions.{mark, word, braces}

@@ -4,9 +4,9 @@ use Rattle.std.specs.Prelude.{nat_le}
 use Rattle.js_tree.specs.declared.place.Loc.{Loc}
 use Rattle.js_tree.specs.Plain.{Expr, no_expr, push_exprs, Stmt, no_stmt, push_stmts}
 use Rattle.js_text.specs.Token.{Token}
-use Rattle.js_text.specs.Level.{assignment}
+use Rattle.js_reading.specs.Level.{assignment}
 use Rattle.js_text.specs.declared.punctuator.Punctuator.TheVariants as P
-use Rattle.js_text.specs.Grammar.{through}
+use Rattle.js_reading.specs.Spans.{through}
 use Rattle.js_reading.specs.Kinds.{is_kind}
 use Rattle.js_reading.specs.Slots.{Slot, Sign, Text, Expr_, Stmt_, Stmts_, Items_, Place_, By, Piece, AnExpr, AStmt, TheStmts, TheExprs, APlace, Form}
 use Rattle.js_reading.specs.Slots as slot

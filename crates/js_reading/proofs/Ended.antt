@@ -1,15 +1,15 @@
 -- The tokens of a file that is whole begin as many levels as its tree has.
-use Rattle.std.proofs.Common.{◌≡◌, ℕ, zero, ◌<◌, ◌≤◌, max, Bool, true, false, not, ◌&&◌, List, [], ◌∷◌, ◌++◌, Option, Some, None, refl, sym, ap, subst, ◌∙◌, arith, append_assoc, append-nil}
+use Rattle.std.proofs.Common.{◌≡◌, ℕ, ◌<◌, max, Bool, true, false, not, ◌&&◌, List, [], ◌∷◌, ◌++◌, Some, refl, sym, ap, subst, ◌∙◌, arith, append_assoc, append-nil}
 use Rattle.js_tree.specs.declared.place.Loc.{Loc}
 use Rattle.js_tree.specs.Plain.{Stmt, Stmts, no_stmt, more_stmt, File, MakeFile}
 use Rattle.js_tree.specs.Height.{height_stmt, height_stmts, height_file}
 use Rattle.js_text.specs.Token.{Token}
-use Rattle.js_text.specs.Grammar.{first}
+use Rattle.js_reading.specs.Spans.{first}
 use Rattle.js_reading.specs.Makes.{with_directives, is_declaration}
 use Rattle.js_reading.specs.Slots.{AStmt}
 use Rattle.js_reading.specs.Sentences
 use Rattle.js_reading.specs.Sentences.{Spells, SpellsStmts, Sentence}
-use Rattle.js_reading.specs.Turns.{Config, Finished, Start, run, tree_of}
+use Rattle.js_reading.specs.Turns.{Finished, Start, run, tree_of}
 use Rattle.js_reading.specs.Open.{OpensStmts, OpensMore, no_stmts_token, open_last, whole_stmt}
 use Rattle.js_reading.proofs.Heights.{directives_same}
 use Rattle.js_reading.proofs.Shapes.{first_append}

@@ -1,14 +1,11 @@
 -- The end of a text, where a file goes on with it, ends the file.
-use Rattle.std.proofs.Common.{◌≡◌, Bool, true, false, List, [], ◌∷◌, Option, Some, None, refl, sym, ap, subst, ◌∙◌}
+use Rattle.std.proofs.Common.{◌≡◌, Bool, true, false, List, ◌∷◌, Some, None, refl, sym, subst}
 use Rattle.std.proofs.lemmas.Bool.{true≢false}
-use Rattle.js_tree.specs.Plain.{Stmts}
 use Rattle.js_text.specs.Token.{Token, Kind, End}
-use Rattle.js_text.specs.Token as T
-use Rattle.js_text.specs.declared.punctuator.Punctuator.TheVariants as P
 use Rattle.js_reading.specs.Kinds.{is_kind}
 use Rattle.js_reading.specs.Slots.{Piece, Class, BoundName, AnyName, Key, FirstText, LaterText}
-use Rattle.js_reading.specs.Productions.{piece_of, is_mark, join}
-use Rattle.js_reading.specs.Turns.{Frame, InExpression, Config, Finished, Start, want, begin, turn, run, tree_of}
+use Rattle.js_reading.specs.Productions.{piece_of}
+use Rattle.js_reading.specs.Turns.{Frame, InExpression, Config, Finished, Start, want, begin, turn, run}
 use Rattle.js_reading.proofs.Firsts.{remade}
 use Rattle.js_reading.proofs.KindsLemmas.{kind_is}
 use Rattle.js_reading.proofs.Rows.{sign_kind}

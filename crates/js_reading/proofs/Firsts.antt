@@ -9,7 +9,7 @@ use Rattle.js_text.specs.Token as T
 use Rattle.js_text.specs.Word.{reserved_word}
 use Rattle.js_text.specs.declared.punctuator.Punctuator.{Punctuator}
 use Rattle.js_text.specs.declared.punctuator.Punctuator.TheVariants as P
-use Rattle.js_text.specs.Grammar.{first}
+use Rattle.js_reading.specs.Spans.{first}
 use Rattle.js_reading.specs.Kinds.{is_kind, is_keyword}
 use Rattle.js_reading.specs.Slots.{Wanted, Slot, Expr_, Piece, AnExpr, AStmt}
 use Rattle.js_reading.specs.Productions.{is_mark, prefix, statement}

@@ -7,8 +7,8 @@ use Rattle.js_tree.specs.Plain.{Expr}
 use Rattle.js_text.specs.Token.{Token, Kind}
 use Rattle.js_text.specs.Token as T
 use Rattle.js_text.specs.declared.punctuator.Punctuator.TheVariants as P
-use Rattle.js_text.specs.Level.{any}
-use Rattle.js_text.specs.Grammar.{through}
+use Rattle.js_reading.specs.Level.{any}
+use Rattle.js_reading.specs.Spans.{through}
 use Rattle.js_text.specs.declared.goal.Goal.{Goal}
 use Rattle.js_text.specs.declared.goal.Goal.TheVariants as goal
 use Rattle.js_reading.specs.Slots.{Wanted, Level, WithoutIn, Callee, Slot, Sign, Expr_, Items_, Place_, By, Piece, AnExpr, AStmt, APlace, Missing, Branch, Pass, Go, Form, LaterText, AnyName, Key}

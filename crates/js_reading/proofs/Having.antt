@@ -7,8 +7,8 @@ use Rattle.js_text.specs.Token.{Token, Kind, End}
 use Rattle.js_text.specs.Token as T
 use Rattle.js_text.specs.declared.punctuator.Punctuator.{Punctuator}
 use Rattle.js_text.specs.declared.punctuator.Punctuator.TheVariants as P
-use Rattle.js_text.specs.Level.{assignment}
-use Rattle.js_text.specs.Grammar.{first}
+use Rattle.js_reading.specs.Level.{assignment}
+use Rattle.js_reading.specs.Spans.{first}
 use Rattle.js_reading.specs.Kinds.{is_kind}
 use Rattle.js_reading.specs.Outside.{this_stmts}
 use Rattle.js_reading.specs.Slots.{Wanted, Level, Slot, Expr_, Stmts_, Items_, Piece, AnExpr, AStmt, TheStmts, TheExprs, Form}
@@ -22,8 +22,8 @@ use Rattle.js_reading.proofs.Allowed.{gripped}
 use Rattle.js_reading.proofs.KindsLemmas.{kind_is}
 use Rattle.js_reading.proofs.Lists.{append_exprs, exprs_push, exprs_last}
 use Rattle.js_reading.proofs.Shapes.{first_append}
-use Rattle.js_reading.proofs.Standing.{exprs_pushed, Only, Sort, AsStmt, IsOf, after_expr, after_stmt, after_stmts, after_items, stmts_then}
-use Rattle.js_reading.proofs.Places.{Frames, in_file, in_stmts, in_expr, in_stmt, in_items, Open, opened, Reads, due, item_next, at_end, grow, begin_sound, items_more}
+use Rattle.js_reading.proofs.Standing.{exprs_pushed, Only, Sort, AsStmt, IsOf, after_expr, after_stmt, after_stmts, after_items, stmts_then, AsExpr}
+use Rattle.js_reading.proofs.Places.{Frames, in_file, in_stmts, in_expr, in_stmt, in_items, Open, opened, Reads, due, item_next, at_end, grow, begin_sound, items_more, Led, Came, came_at}
 use Rattle.js_reading.proofs.Runs.{by_bool}
 use Rattle.js_reading.proofs.Passing.{pass_sound, shift_sound, have_option}
 
@@ -33,7 +33,7 @@ further {d = d} u vs ts t r = subst (λ x. Reads d (x ++ t ∷ [])) (sym (append
 
 -- what stands in these frames before a token leads to a place that stands for the tokens
 abbrev pub Sound : List Frame → Token → Config → Type 0
-Sound fs t d = (k : Sort) (v : List Token) (a : Token) (vs : List Token) (p : Piece) (m : Loc) → Frames k fs v (Only a) → IsOf k p → Spells p m (a ∷ vs) t → have fs (Some p) m t ≡ Some d → Reads d ((v ++ a ∷ vs) ++ t ∷ [])
+Sound fs t d = (k : Sort) (v : List Token) (a : Token) (vs : List Token) (p : Piece) (m : Loc) → Frames k fs v (Only a) → Led k fs v a → Came d (v ++ a ∷ vs) t → IsOf k p → Spells p m (a ∷ vs) t → have fs (Some p) m t ≡ Some d → Reads d ((v ++ a ∷ vs) ++ t ∷ [])
 
 -- the same of the frames below the first
 abbrev pub Below : List Frame → Token → Config → Type 0
@@ -41,13 +41,13 @@ Below [] t d = Unit {0}
 Below (f ∷ fs) t d = Sound fs t d
 
 -- a statement in a frame of a production, where what is sound of the frames below is
-pub stmt_sound : {fs : List Frame} {u ts : List Token} {l : Loc} {d : Config} {s : Stmt} (b t : Token) → Frames AsStmt fs u (Only b) → Spells (AStmt s) l (b ∷ ts) t → Below fs t d →
+pub stmt_sound : {fs : List Frame} {u ts : List Token} {l : Loc} {d : Config} {s : Stmt} (b t : Token) → Frames AsStmt fs u (Only b) → Came d (u ++ b ∷ ts) t → Spells (AStmt s) l (b ∷ ts) t → Below fs t d →
     have fs (Some (AStmt s)) l t ≡ Some d → Reads d ((u ++ b ∷ ts) ++ t ∷ [])
-stmt_sound {ts = ts} {l = l} {d = d} {s = s} b t (in_stmt {f = f} {w = w} {ss = ss} {ps = ps} {fs = fs} (opened {u = u} {us = us} a fr kd tail)) ds rec h =
+stmt_sound {ts = ts} {l = l} {d = d} {s = s} b t (in_stmt {f = f} {w = w} {ss = ss} {ps = ps} {fs = fs} (opened {u = u} {us = us} a fr st kd tail)) came ds rec h =
     by_bool (is_declaration s) _ _ d (λ e q. absurd cc)
     (λ plainly q. further u (a ∷ us) (b ∷ ts) t
-    (pass_sound f w ss (ps ++ AStmt s ∷ []) l fs u (us ++ b ∷ ts) a t d (λ p m. have fs p m t) fr kd (after_stmt b t plainly ds tail) (λ o m so sp r. have_option fs u a o m t d fr so (λ p x is y. rec _ u a (us ++ b ∷ ts) p m fr is (sp p x is) y) r) q)) h
-stmt_sound {ts = ts} {l = l} {d = d} {s = s} b t (in_stmts {f = f} {w = w} {l = begun} {ss = ss} {ps = ps} {fs = fs} {acc = acc} vs a o dss firsts) ds rec h = by_open o h
+    (pass_sound f w ss (ps ++ AStmt s ∷ []) l fs u (us ++ b ∷ ts) a t d (λ p m. have fs p m t) fr st (came_at t (append_assoc u (a ∷ us) (b ∷ ts)) came) kd (after_stmt b t plainly ds tail) (λ o m so sp r. have_option fs u a o m t d fr so (λ p x is y. rec _ u a (us ++ b ∷ ts) p m fr st.0 (came_at t (append_assoc u (a ∷ us) (b ∷ ts)) came) is (sp p x is) y) r) q)) h
+stmt_sound {ts = ts} {l = l} {d = d} {s = s} b t (in_stmts {f = f} {w = w} {l = begun} {ss = ss} {ps = ps} {fs = fs} {acc = acc} vs a o dss firsts) came ds rec h = by_open o came h
   where
     all : SpellsStmts (push_stmts acc s) begun l (vs ++ b ∷ ts) t
     all = stmts_then ts (dss b refl) ds
@@ -55,34 +55,34 @@ stmt_sound {ts = ts} {l = l} {d = d} {s = s} b t (in_stmts {f = f} {w = w} {l = 
     first_is : (n : Token) → first (vs ++ b ∷ ts) n ≡ a
     first_is n = first_append vs (b ∷ ts) n ∙ firsts b refl
 
-    by_open : {u : List Token} → Open f w (Stmts_ ∷ ss) ps begun fs u (Only a) → (if closes t then pass f w ss (ps ++ TheStmts (push_stmts acc s) ∷ []) l fs t (λ p m. have fs p m t) else begin t (InStmts f w ss ps (push_stmts acc s) ∷ fs)) ≡ Some d →
+    by_open : {u : List Token} → Open f w (Stmts_ ∷ ss) ps begun fs u (Only a) → Came d ((u ++ vs) ++ b ∷ ts) t → (if closes t then pass f w ss (ps ++ TheStmts (push_stmts acc s) ∷ []) l fs t (λ p m. have fs p m t) else begin t (InStmts f w ss ps (push_stmts acc s) ∷ fs)) ≡ Some d →
         Reads d (((u ++ vs) ++ b ∷ ts) ++ t ∷ [])
-    by_open (opened {u = u} {us = us} c fr kd tail) g =
+    by_open (opened {u = u} {us = us} c fr st kd tail) came g =
         further (u ++ c ∷ us) vs (b ∷ ts) t
         (by_bool (closes t) _ _ d
         (λ e q. further u (c ∷ us) (vs ++ b ∷ ts) t
-        (pass_sound f w ss (ps ++ TheStmts (push_stmts acc s) ∷ []) l fs u (us ++ (vs ++ b ∷ ts)) c t d (λ p m. have fs p m t) fr kd (after_stmts t all e (first_is t) tail) (λ o m so sp r. have_option fs u c o m t d fr so (λ p x is y. rec _ u c (us ++ (vs ++ b ∷ ts)) p m fr is (sp p x is) y) r) q))
-        (λ e q. begin_sound t (in_stmts (vs ++ b ∷ ts) a (opened c fr kd tail) (λ n z. subst (λ x. SpellsStmts (push_stmts acc s) begun l (vs ++ b ∷ ts) x) (sym z) all) (λ n z. first_is n)) q) g)
-stmt_sound {ts = ts} {l = l} {d = d} {s = s} b t (in_file {acc = acc} {l = begun} {ts = us} dss) ds rec h =
+        (pass_sound f w ss (ps ++ TheStmts (push_stmts acc s) ∷ []) l fs u (us ++ (vs ++ b ∷ ts)) c t d (λ p m. have fs p m t) fr st (came_at t (append_assoc (u ++ c ∷ us) vs (b ∷ ts) ∙ append_assoc u (c ∷ us) (vs ++ b ∷ ts)) came) kd (after_stmts t all e (first_is t) tail) (λ o m so sp r. have_option fs u c o m t d fr so (λ p x is y. rec _ u c (us ++ (vs ++ b ∷ ts)) p m fr st.0 (came_at t (append_assoc (u ++ c ∷ us) vs (b ∷ ts) ∙ append_assoc u (c ∷ us) (vs ++ b ∷ ts)) came) is (sp p x is) y) r) q))
+        (λ e q. begin_sound t (in_stmts (vs ++ b ∷ ts) a (opened c fr st kd tail) (λ n z. subst (λ x. SpellsStmts (push_stmts acc s) begun l (vs ++ b ∷ ts) x) (sym z) all) (λ n z. first_is n)) (came_at t (append_assoc (u ++ c ∷ us) vs (b ∷ ts)) came) q) g)
+stmt_sound {ts = ts} {l = l} {d = d} {s = s} b t (in_file {acc = acc} {l = begun} {ts = us} dss) came ds rec h =
     by_bool (is_kind End t.kind) _ _ d
     (λ e q. by_bool (this_stmts (push_stmts acc s)) _ _ d (λ x g. absurd cc)
     (λ x g. let r : Finished (push_stmts acc s) ≡ d = cc in
     subst (λ y. Reads y ((us ++ b ∷ ts) ++ t ∷ [])) r (at_end (Sentences.file t (kind_is End t.kind e) all x))) q)
-    (λ e q. begin_sound t (in_file (λ n z. subst (λ x. SpellsStmts (push_stmts acc s) begun l (us ++ b ∷ ts) x) (sym z) all)) q) h
+    (λ e q. begin_sound t (in_file (λ n z. subst (λ x. SpellsStmts (push_stmts acc s) begun l (us ++ b ∷ ts) x) (sym z) all)) came q) h
   where
     all : SpellsStmts (push_stmts acc s) begun l (us ++ b ∷ ts) t
     all = stmts_then ts (dss b refl) ds
 
 -- an expression in a slot, where what is sound of the frames below is
-pub expr_sound : {f : Form} {w l0 : Loc} {v : Wanted} {ss : List Slot} {ps : List Piece} {fs : List Frame} {u ts : List Token} {l : Loc} {d : Config} {i : ℕ} {e : Expr} (b t : Token) → Open f w (Expr_ v ∷ ss) ps l0 fs u (Only b) → Spells (AnExpr i e) l (b ∷ ts) t →
+pub expr_sound : {f : Form} {w l0 : Loc} {v : Wanted} {ss : List Slot} {ps : List Piece} {fs : List Frame} {u ts : List Token} {l : Loc} {d : Config} {i : ℕ} {e : Expr} (b t : Token) → Open f w (Expr_ v ∷ ss) ps l0 fs u (Only b) → Led AsExpr (InForm f w (Expr_ v) ss ps ∷ fs) u b → Came d (u ++ b ∷ ts) t → Spells (AnExpr i e) l (b ∷ ts) t →
     Sound fs t d →
     have (InForm f w (Expr_ v) ss ps ∷ fs) (Some (AnExpr i e)) l t ≡ Some d → Reads d ((u ++ b ∷ ts) ++ t ∷ [])
-expr_sound {f = f} {w = w} {v = v} {ss = ss} {ps = ps} {fs = fs} {ts = ts} {l = l} {d = d} {i = i} {e = e} b t (opened {u = u} {us = us} a fr kd tail) de rec h =
+expr_sound {f = f} {w = w} {v = v} {ss = ss} {ps = ps} {fs = fs} {ts = ts} {l = l} {d = d} {i = i} {e = e} b t (opened {u = u} {us = us} a fr st kd tail) led came de rec h =
     by_bool (continues v e t) _ _ d
-    (λ c g. by_bool (banned t (InForm f w (Expr_ v) ss ps ∷ fs)) _ _ d (λ x q. absurd cc) (λ x q. shift_sound b t (in_expr (opened a fr kd tail)) de x (λ g is. gripped (InForm f w (Expr_ v) ss ps) fs e t g c is) q) g)
+    (λ c g. by_bool (banned t (InForm f w (Expr_ v) ss ps ∷ fs)) _ _ d (λ x q. absurd cc) (λ x q. shift_sound b t (in_expr (opened a fr st kd tail)) led de x (λ g is. gripped (InForm f w (Expr_ v) ss ps) fs e t g c is) q) g)
     (λ c g. by_bool (fits v i e) _ _ d
     (λ fit q. further u (a ∷ us) (b ∷ ts) t
-    (pass_sound f w ss (ps ++ AnExpr i e ∷ []) l fs u (us ++ b ∷ ts) a t d (λ p m. have fs p m t) fr kd (after_expr b t fit de c tail) (λ o m so sp r. have_option fs u a o m t d fr so (λ p x is y. rec _ u a (us ++ b ∷ ts) p m fr is (sp p x is) y) r) q))
+    (pass_sound f w ss (ps ++ AnExpr i e ∷ []) l fs u (us ++ b ∷ ts) a t d (λ p m. have fs p m t) fr st (came_at t (append_assoc u (a ∷ us) (b ∷ ts)) came) kd (after_expr b t fit de c tail) (λ o m so sp r. have_option fs u a o m t d fr so (λ p x is y. rec _ u a (us ++ b ∷ ts) p m fr st.0 (came_at t (append_assoc u (a ∷ us) (b ∷ ts)) came) is (sp p x is) y) r) q))
     (λ x q. absurd cc) g) h
 
 -- an expression in a list of items

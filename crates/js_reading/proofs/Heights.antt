@@ -8,8 +8,8 @@ use Rattle.js_tree.specs.declared.operators.AssignmentOperator.TheVariants as as
 use Rattle.js_tree.specs.Plain.{Expr, Exprs, no_expr, more_expr, Stmt, Stmts, no_stmt, more_stmt, MaybeExpr, none_expr, some_expr}
 use Rattle.js_tree.specs.Plain as tree
 use Rattle.js_tree.specs.Height.{height_expr, height_exprs, height_stmt, height_stmts, height_function, height_param, height_params, height_concise_body, height_property, height_property_key, height_properties, height_template_parts, height_template_part, height_declarator, height_declarators, height_case, height_cases, height_expr_if, height_for_init}
-use Rattle.js_text.specs.Level.{assignment}
-use Rattle.js_text.specs.Grammar.{through}
+use Rattle.js_reading.specs.Level.{assignment}
+use Rattle.js_reading.specs.Spans.{through}
 use Rattle.js_reading.specs.Slots.{Piece, AnExpr, AStmt, TheStmts, TheExprs, AWord, AKey, AText, APlace, AKind, Missing, IsComputed, IsMethod, IsIn, IsOf, Form}
 use Rattle.js_reading.specs.Slots as slot
 use Rattle.js_reading.specs.Makes.{is_target, is_async, is_and_or, with_directives, comma_of, loc_of, with_param, function_of, param_of, one_more_param, params_of, concise, arrow_of, expression_of, declaration_of, one_more_declarator, declarators_of, is_const, variables_of, maybe, for_with, for_of, for_declared, for_parts, one_more_property, method_param, method_of, method_with, after_key, property_of, then_properties, properties_of, object_of, one_more_part, template_parts, template_of, one_more_case, cases_of, switch_of, length_of, build}

@@ -7,7 +7,7 @@ use Rattle.js_tree.specs.declared.operators.BinaryOperator.TheVariants as b
 use Rattle.js_tree.specs.declared.operators.LogicalOperator.TheVariants as logic
 use Rattle.js_tree.specs.Plain.{Expr, Exprs, no_expr, more_expr}
 use Rattle.js_tree.specs.Plain as tree
-use Rattle.js_text.specs.Level.{assignment, binary_level}
+use Rattle.js_reading.specs.Level.{assignment, binary_level}
 use Rattle.js_reading.specs.Slots.{Piece, AnExpr, AStmt, TheStmts, TheExprs, AWord, AText, APlace, Missing, Form}
 use Rattle.js_reading.specs.Slots as slot
 use Rattle.js_reading.specs.Makes.{build, is_target, is_and_or, last_level, arrow_of, params_of, concise, expression_of, object_of, properties_of, length_of, template_of, template_parts, function_of}

@@ -9,8 +9,8 @@ use Rattle.js_tree.specs.declared.operators.LogicalOperator.TheVariants as logic
 use Rattle.js_tree.specs.Plain.{Expr, Exprs, no_expr, more_expr}
 use Rattle.js_tree.specs.Plain as tree
 use Rattle.js_text.specs.Token.{Token}
-use Rattle.js_text.specs.Level.{any, assignment, binary_level}
-use Rattle.js_text.specs.Grammar.{through}
+use Rattle.js_reading.specs.Level.{any, assignment, binary_level}
+use Rattle.js_reading.specs.Spans.{through}
 use Rattle.js_reading.specs.Slots.{Piece, AnExpr, AStmt, TheStmts, TheExprs, AWord, AText, Missing, Form}
 use Rattle.js_reading.specs.Slots as slot
 use Rattle.js_reading.specs.Productions.{member, call, member_level}

@@ -9,7 +9,7 @@ use Rattle.js_tree.specs.declared.operators.LogicalOperator.{LogicalOperator}
 use Rattle.js_tree.specs.declared.operators.LogicalOperator.TheVariants as logic
 use Rattle.js_tree.specs.Plain.{Expr, Exprs, no_expr, more_expr, Stmt}
 use Rattle.js_tree.specs.Plain as tree
-use Rattle.js_text.specs.Level.{assignment, binary_level, logical_level}
+use Rattle.js_reading.specs.Level.{assignment, binary_level, logical_level}
 use Rattle.js_reading.specs.Slots.{Wanted, Level, WithoutIn, Callee, Slot, Sign, Text, Expr_, Stmt_, Stmts_, Items_, Place_, By, Piece, AnExpr, AStmt, TheStmts, TheExprs, AWord, AKey, AText, APlace, AKind, Missing, Form}
 use Rattle.js_reading.specs.Slots as slot
 use Rattle.js_reading.specs.Productions.{member, call, bare, member_level, slots, first_level, form_level}

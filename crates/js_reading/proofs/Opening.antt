@@ -2,14 +2,14 @@
 use Rattle.std.proofs.Common.{◌≡◌, ℕ, ◌+◌, ◌<◌, max, true, List, [], ◌∷◌, ◌++◌, Some, refl, sym, subst, arith, append_assoc, append-nil}
 use Rattle.js_tree.specs.Height.{height_exprs, height_stmts}
 use Rattle.js_text.specs.Token.{Token, End}
-use Rattle.js_text.specs.Grammar.{first}
+use Rattle.js_reading.specs.Spans.{first}
 use Rattle.js_reading.specs.Slots.{Piece, Slot, Form}
 use Rattle.js_reading.specs.Open
 use Rattle.js_reading.specs.Open.{height, heights, OpensExpr, OpensStmt, OpensSlots, none_open, open_expr, open_stmt, open_stmts, open_items, no_items_token, OpensItems, open_item, OpensStmts, open_last, OpensMore, lift, up, floor}
 use Rattle.js_reading.specs.Turns.{Frame, Config, Start, place, run}
 use Rattle.js_reading.proofs.Standing.{When, Any, Only, Holds, Sort, AsExpr, AsStmt, Begun}
 use Rattle.js_reading.proofs.Places.{Frames, in_file, in_stmts, in_expression, in_expr, in_stmt, in_items, Open, opened, Reads, due, having, item_next, not_begun, at_end}
-use Rattle.js_reading.proofs.Sound.{run_sound}
+use Rattle.js_reading.proofs.Sound.{reads_so}
 
 as_stmts : {n m : ℕ} {ts us : List Token} → OpensStmts n ts → n ≡ m → ts ≡ us → OpensStmts m us
 as_stmts {m = m} {ts = ts} d e q = subst (λ x. OpensStmts m x) q (subst (λ x. OpensStmts x ts) e d)
@@ -37,7 +37,7 @@ mutual
   -- slots of an open production are begun
   begun_open : {f : Form} {w l : _} {ss : List Slot} {ps : List Piece} {fs : List Frame} {u : List Token} {c : When} → Open f w ss ps l fs u c → (h : ℕ) (us : List Token) (next : Token) → Holds c (first us next) → OpensSlots (place fs) ss h us →
       OpensStmts (up fs (max (heights ps) h + 1)) (u ++ us)
-  begun_open {ps = ps} (opened {k = k} {u = u} {us = vs} b fr kd tail) h us next holds d =
+  begun_open {ps = ps} (opened {k = k} {u = u} {us = vs} b fr st kd tail) h us next holds d =
       as_stmts (begun_part k fr (max (heights ps) h + 1) (vs ++ us) (tail.begins next holds d)) refl (sym (append_assoc u (b ∷ vs) us))
 
 -- any token
@@ -61,11 +61,11 @@ begun_item (in_expr {fs = fs} {u = u} o) = as_stmts (begun_open o 0 [] any_token
 
 begun : {c : Config} {u : List Token} → Reads c u → (limit : ℕ) → limit < floor c → OpensStmts (floor c) u
 begun (due {ps = ps} {fs = fs} {u = u} o) limit lt = up_same fs (begun_open o 0 [] any_token tt none_open) (omega arith) (append-nil u)
-begun (having {k = k} {p = p} {ts = ts} b fr is sp d) limit lt = begun_part k fr (height p) ts d
+begun (having {k = k} {p = p} {ts = ts} b fr led is sp d) limit lt = begun_part k fr (height p) ts d
 begun (item_next fr) limit lt = begun_item fr
 begun not_begun limit lt = absurd (omega arith)
 begun (at_end s) limit lt = absurd (omega arith)
 
 -- where a place counts more levels than a limit, the tokens that lead to it begin more
 pub begins_more : (ts : List Token) (c : Config) (limit : ℕ) → run Start ts ≡ Some c → limit < floor c → OpensMore limit ts
-begins_more ts c limit h lt = (floor c, lt, begun (run_sound ts [] Start c not_begun h) limit lt)
+begins_more ts c limit h lt = (floor c, lt, begun (reads_so ts c h) limit lt)

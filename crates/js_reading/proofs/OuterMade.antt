@@ -9,8 +9,8 @@ use Rattle.js_tree.specs.declared.operators.LogicalOperator.TheVariants as logic
 use Rattle.js_tree.specs.declared.operators.AssignmentOperator.TheVariants as assign
 use Rattle.js_tree.specs.Plain.{Expr, Exprs, no_expr, more_expr, Stmt, Stmts, no_stmt, more_stmt, MaybeExpr, none_expr, some_expr}
 use Rattle.js_tree.specs.Plain as tree
-use Rattle.js_text.specs.Level.{assignment}
-use Rattle.js_text.specs.Grammar.{through}
+use Rattle.js_reading.specs.Level.{assignment}
+use Rattle.js_reading.specs.Spans.{through}
 use Rattle.js_walk.specs.Part as part
 use Rattle.js_walk.specs.Walk.{visit, within_expr, within_stmt, within_exprs, within_stmts, within_params, within_param, within_concise_body, within_property, within_property_key, within_properties, within_template_part, within_template_parts, within_declarator, within_declarators, within_case, within_cases, within_for_init, within_expr_if}
 use Rattle.js_reading.specs.Slots.{Piece, AnExpr, AStmt, TheStmts, TheExprs, AWord, AKey, AText, APlace, AKind, Missing, IsComputed, IsMethod, IsIn, IsOf, Form}

@@ -15,8 +15,8 @@ use Rattle.js_tree.specs.Plain as tree
 use Rattle.js_text.specs.Token.{Token, Kind, Word, End}
 use Rattle.js_text.specs.Token as T
 use Rattle.js_text.specs.Word.{reserved_word}
-use Rattle.js_text.specs.Level.{assignment}
-use Rattle.js_text.specs.Grammar.{through}
+use Rattle.js_reading.specs.Level.{assignment}
+use Rattle.js_reading.specs.Spans.{through}
 use Rattle.js_text.specs.declared.punctuator.Punctuator.TheVariants as P
 use Rattle.js_reading.specs.Kinds.{is_kind, is_keyword}
 use Rattle.js_reading.specs.Slots.{Wanted, Slot, Sign, Text, Expr_, Stmt_, Stmts_, Items_, Place_, By, Piece, AnExpr, AStmt, TheStmts, TheExprs, AWord, AText, APlace, Missing, Branch, Refuse, Pass, Go, Form, Choice, Class, LaterText, FirstText, AnyName, Key, BoundName}

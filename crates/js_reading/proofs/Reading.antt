@@ -10,8 +10,8 @@ use Rattle.js_text.specs.Token.{Token, Kind, Word, End}
 use Rattle.js_text.specs.Token as T
 use Rattle.js_text.specs.declared.punctuator.Punctuator.{Punctuator}
 use Rattle.js_text.specs.declared.punctuator.Punctuator.TheVariants as P
-use Rattle.js_text.specs.Grammar.{through, first}
-use Rattle.js_text.specs.Level.{any, assignment}
+use Rattle.js_reading.specs.Spans.{through, first}
+use Rattle.js_reading.specs.Level.{any, assignment}
 use Rattle.js_reading.specs.Kinds.{is_kind}
 use Rattle.js_reading.specs.Slots.{Wanted, Level, WithoutIn, Callee, Slot, Sign, Text, Expr_, Stmt_, Stmts_, Items_, Place_, By, Piece, AnExpr, AStmt, TheStmts, TheExprs, APlace, Branch, Refuse, Pass, Go, Form, Class, Choice}
 use Rattle.js_reading.specs.Slots as slot
@@ -127,34 +127,34 @@ not_bans t f fs h = refl
 
 -- ---- steps
 
-taken : (b : Bool) (x y : Option Config) (us : List Token) → b ≡ true → then_run (if b then x else y) (λ c. run c us) ≡ then_run x (λ c. run c us)
+pub taken : (b : Bool) (x y : Option Config) (us : List Token) → b ≡ true → then_run (if b then x else y) (λ c. run c us) ≡ then_run x (λ c. run c us)
 taken b x y us h = ap (λ o. then_run o (λ c. run c us)) (cond-true b x y h)
 
-skipped : (b : Bool) (x y : Option Config) (us : List Token) → b ≡ false → then_run (if b then x else y) (λ c. run c us) ≡ then_run y (λ c. run c us)
+pub skipped : (b : Bool) (x y : Option Config) (us : List Token) → b ≡ false → then_run (if b then x else y) (λ c. run c us) ≡ then_run y (λ c. run c us)
 skipped b x y us h = ap (λ o. then_run o (λ c. run c us)) (cond-false b x y h)
 
-same : (x y : Option Config) (us : List Token) → x ≡ y → then_run x (λ c. run c us) ≡ then_run y (λ c. run c us)
+pub same : (x y : Option Config) (us : List Token) → x ≡ y → then_run x (λ c. run c us) ≡ then_run y (λ c. run c us)
 same x y us h = ap (λ o. then_run o (λ c. run c us)) h
 
 -- an expression with which the token does not go on
-leaves : (f : Frame) (fs : List Frame) (i : ℕ) (e : Expr) (l : Loc) (t : Token) (us : List Token) → continues (wanted f) e t ≡ false →
+pub leaves : (f : Frame) (fs : List Frame) (i : ℕ) (e : Expr) (l : Loc) (t : Token) (us : List Token) → continues (wanted f) e t ≡ false →
     there (f ∷ fs) (Some (AnExpr i e)) l t us ≡ then_run (leave f i e l fs t (λ p m. have fs p m t)) (λ c. run c us)
 leaves f fs i e l t us h = skipped (continues (wanted f) e t) _ _ us h
 
-take_pass : (f : Form) (w : Loc) (s : Slot) (ss : List Slot) (ps : List Piece) (l : Loc) (fs : List Frame) (t : Token) (go : Option Piece → Loc → Option Config) → taking s ≡ true → take f w s ss ps fs t ≡ pass f w (s ∷ ss) ps l fs t go
+pub take_pass : (f : Form) (w : Loc) (s : Slot) (ss : List Slot) (ps : List Piece) (l : Loc) (fs : List Frame) (t : Token) (go : Option Piece → Loc → Option Config) → taking s ≡ true → take f w s ss ps fs t ≡ pass f w (s ∷ ss) ps l fs t go
 take_pass f w Place_ ss ps l fs t go h = no_part h
 take_pass f w Stmts_ ss ps l fs t go h = no_part h
 take_pass f w (By c) ss ps l fs t go h = no_part h
 take_pass f w s ss ps l fs t go h = refl
 
 -- what begins with the first of these tokens begins with the first of the first part
-at_first : (go : Token → Option Config) (te us : List Token) (next : Token) (rest : List Token) →
+pub at_first : (go : Token → Option Config) (te us : List Token) (next : Token) (rest : List Token) →
     then_run (go (first (te ++ us) next)) (λ c. run c (others (te ++ us) next rest)) ≡ then_run (go (first te (first us next))) (λ c. run c (others te (first us next) (others us next rest)))
 at_first go te us next rest =
     ap (λ x. then_run (go x) (λ c. run c (others (te ++ us) next rest))) (first_append te us next) ∙ ap (λ ys. then_run (go (first te (first us next))) (λ c. run c ys)) (others_append te us next rest)
 
 -- a place that is due, and what is left of the tokens
-due_run : (f : Form) (w : Loc) (ss : List Slot) (ps : List Piece) (l : Loc) (fs : List Frame) (us : List Token) (next : Token) (rest : List Token) →
+pub due_run : (f : Form) (w : Loc) (ss : List Slot) (ps : List Piece) (l : Loc) (fs : List Frame) (us : List Token) (next : Token) (rest : List Token) →
     run (Due f w ss ps l fs) (us ++ next ∷ rest) ≡ then_run (pass f w ss ps l fs (first us next) (λ p m. have fs p m (first us next))) (λ c. run c (others us next rest))
 due_run f w ss ps l fs us next rest = ap (λ u. run (Due f w ss ps l fs) u) (split us next rest)
 
@@ -172,7 +172,7 @@ bars_on : (s : Slot) (ss : List Slot) (fs : List Frame) (ps rs qs : List Piece) 
 bars_on s ss fs ps rs qs h = λ o k. ap last_bare (append_assoc ps rs qs) ∙ h (open_drop s ss o) k
 
 -- no bare `in` stands in a slot where it is banned
-slot_bars : (f : Form) (w : Loc) (v : Wanted) (ss : List Slot) (ps : List Piece) (fs : List Frame) (i : ℕ) (e : Expr) → fits v i e ≡ true → (ss ≡ [] → shut fs ≡ true → bare_in e ≡ false) → shut (InForm f w (Expr_ v) ss ps ∷ fs) ≡ true → bare_in e ≡ false
+pub slot_bars : (f : Form) (w : Loc) (v : Wanted) (ss : List Slot) (ps : List Piece) (fs : List Frame) (i : ℕ) (e : Expr) → fits v i e ≡ true → (ss ≡ [] → shut fs ≡ true → bare_in e ≡ false) → shut (InForm f w (Expr_ v) ss ps ∷ fs) ≡ true → bare_in e ≡ false
 slot_bars f w (WithoutIn n) ss ps fs i e fit last h = not_false (bare_in e) (and_parts (nat_le n i) (not (bare_in e)) fit).1
 slot_bars f w (Level n) [] ps fs i e fit last h = last refl (by_place (place fs) h)
   where
@@ -183,7 +183,7 @@ slot_bars f w Callee ss ps fs i e fit last h = no_part h
 slot_bars f w (Level n) (s ∷ ss) ps fs i e fit last h = no_part h
 
 -- what fits and has no bare `in` where that is banned fits the place
-fits_place : (f : Frame) (fs : List Frame) (i : ℕ) (e : Expr) → fits (wanted f) i e ≡ true → (shut (f ∷ fs) ≡ true → bare_in e ≡ false) → fits (place (f ∷ fs)) i e ≡ true
+pub fits_place : (f : Frame) (fs : List Frame) (i : ℕ) (e : Expr) → fits (wanted f) i e ≡ true → (shut (f ∷ fs) ≡ true → bare_in e ≡ false) → fits (place (f ∷ fs)) i e ≡ true
 fits_place (InForm f w (Expr_ (Level n)) [] ps) fs i e fit bars = by_place (place fs) bars
   where
     by_place : (x : Wanted) → (without (inner (Level n) [] x) ≡ true → bare_in e ≡ false) → fits (inner (Level n) [] x) i e ≡ true
@@ -193,7 +193,7 @@ fits_place (InForm f w (Expr_ v) ss ps) fs i e fit bars = fit
 fits_place f fs i e fit bars = fit
 
 -- what stands in a place is of the level that it asks for
-fits_least : (f : Frame) (fs : List Frame) (i : ℕ) (e : Expr) → fits (wanted f) i e ≡ true → least (place (f ∷ fs)) ≤ i
+pub fits_least : (f : Frame) (fs : List Frame) (i : ℕ) (e : Expr) → fits (wanted f) i e ≡ true → least (place (f ∷ fs)) ≤ i
 fits_least (InForm f w (Expr_ (Level n)) [] ps) fs i e fit = by_place (place fs)
   where
     by_place : (x : Wanted) → least (inner (Level n) [] x) ≤ i

@@ -9,8 +9,8 @@ use Rattle.js_text.specs.Token as T
 use Rattle.js_text.specs.Word.{reserved_word}
 use Rattle.js_text.specs.declared.punctuator.Punctuator.{Punctuator}
 use Rattle.js_text.specs.declared.punctuator.Punctuator.TheVariants as P
-use Rattle.js_text.specs.Grammar.{through}
-use Rattle.js_text.specs.Level.{assignment}
+use Rattle.js_reading.specs.Spans.{through}
+use Rattle.js_reading.specs.Level.{assignment}
 use Rattle.js_reading.specs.Kinds.{is_keyword}
 use Rattle.js_reading.specs.Slots.{Expr_, Wanted, Level, WithoutIn, Callee, Slot, Sign, Text, Items_, Place_, By, Piece, AnExpr, AStmt, APlace, AKey, Form, Class, LaterText, FirstText, AnyName, Key, BoundName}
 use Rattle.js_reading.specs.Slots as slot
@@ -457,7 +457,7 @@ stops_there u c us fine (Unsupported.logical_assignment {t = t} {ts = ts} is) =
     three (is_mark P.LogicalAndAssign t) (is_mark P.LogicalOrAssign t) (is_mark P.CoalesceAssign t) is (λ q. odd_stops P.LogicalAndAssign t c ts fine refl q) (λ q. odd_stops P.LogicalOrAssign t c ts fine refl q) (λ q. odd_stops P.CoalesceAssign t c ts fine refl q)
 stops_there u c us fine (Unsupported.async_function {t = t} {word = word} {ts = ts} is unnamed is_word_ line) = async_function_stops t word c ts fine unnamed (word_is (codes "async") t is) (word_is (codes "function") word is_word_) line
 stops_there u c us fine (Unsupported.async_name {t = t} {ts = ts} name arrow is unnamed named_ line is_arrow) = async_name_stops t name arrow c ts fine unnamed (word_is (codes "async") t is) named_ line (mark_is P.Arrow arrow is_arrow)
-stops_there u c us fine (Unsupported.async_arguments {t = t} f fs opening closing_ arrow ts begins is is_opening line dxs is_closing is_arrow) =
+stops_there u c us fine (Unsupported.async_arguments {t = t} f fs opening closing_ arrow ts begins takes is is_opening line dxs is_closing is_arrow) =
     arguments_stop t opening closing_ arrow c f fs ts fine begins (word_is (codes "async") t is) (mark_is P.OpenParenthesis opening is_opening) dxs (mark_is P.CloseParenthesis closing_ is_closing) (mark_is P.Arrow arrow is_arrow)
 stops_there u c us fine (Unsupported.async_method {t = t} {key = key} {ts = ts} is at key_is line) = word_key_stops t key (codes "async") c ts (word_is (codes "async") t is) at key_is
 stops_there u c us fine (Unsupported.generator {t = t} {star = star} {ts = ts} is unnamed is_star) = generator_stops t star c ts fine unnamed (word_is (codes "function") t is) (mark_is P.Star star is_star)
@@ -472,7 +472,7 @@ stops_there u c us fine (Unsupported.binding {t = t} {ts = ts} is at) =
     (λ q. binding_stops t c ts at (λ f w ss ps l fs. of_kind (λ s. (turn (Due f w (Text BoundName ∷ ss) ps l fs) s ≡ None) × (turn (Due f w (By slot.Parameters ∷ ss) ps l fs) s ≡ None)) t (T.Punctuator P.OpenBracket) (mark_is P.OpenBracket t q) (refl, refl)))
     (λ q. binding_stops t c ts at (λ f w ss ps l fs. of_kind (λ s. (turn (Due f w (Text BoundName ∷ ss) ps l fs) s ≡ None) × (turn (Due f w (By slot.Parameters ∷ ss) ps l fs) s ≡ None)) t (T.Punctuator P.OpenBrace) (mark_is P.OpenBrace t q) (refl, refl)))
 stops_there u c us fine (Unsupported.shorthand {t = t} {sign = sign} {ts = ts} name at is) = shorthand_stops t sign c ts name at (mark_is P.Assign sign is)
-stops_there u c us fine (Unsupported.target_after {i = i} {e = e} {o = o} {w = w} {l = l} {m = m} {n = n} {fs = fs} {t = t} {te = te} next ts fit de is go) = let a = parenthesized_facts e is in updated_stops i e o w l m n fs t te next ts fit de a.0 a.1 go
+stops_there u c us fine (Unsupported.target_after {i = i} {e = e} {l = l} {t = t} {te = te} f fs next ts begins fit de is at go) = let a = parenthesized_facts e is in updated_stops c i e l t te f fs next ts begins fit de a.0 a.1 at go
 
 pub stops_run : (u : Unsupported) (ts us : List Token) (c : Config) → run Start ts ≡ Some c → Stops u c us → run c us ≡ None
 stops_run u ts us c h s = stops_there u c us (come_to ts c h) s
@@ -482,7 +482,7 @@ pub begins_dead : (u : Unsupported) (ts us : List Token) (c : Config) → run St
 begins_dead u vs us c h (Unsupported.at_once s) = dead (vs ++ us) (run_append Start vs us ∙ ap (λ o. then_run o (λ d. run d us)) h ∙ stops_run u vs us c h s)
 begins_dead u vs us c h (Unsupported.proto {t = t} {colon = colon} {w = w} {l = l} {ss = ss} {ps = ps} {fs = fs} {ts = ts} is is_colon) = lost_after Doomed doomed_endless vs us c h (proto_lost t colon w l ss ps fs ts is (mark_is P.Colon colon is_colon))
 begins_dead u vs us c h (Unsupported.target_before {i = i} {e = e} {l = l} {t = t} {te = te} f fs sign ts begins fit de is assigned go) = let a = parenthesized_facts e is in lost_after Doomed doomed_endless vs us c h (assigned_lost c i e l t te f fs sign ts begins fit de a.0 a.1 assigned go)
-begins_dead u vs us c h (Unsupported.target_in_head {i = i} {e = e} {w = w} {l = l} {m = m} {fs = fs} {t = t} {te = te} word ts begins fit de is each_) = let a = parenthesized_facts e is in lost_after Doomed doomed_endless vs us c h (head_lost i e w l m fs t te word ts begins fit de a.0 a.1 each_)
+begins_dead u vs us c h (Unsupported.target_in_head {i = i} {e = e} {l = l} {t = t} {te = te} f fs word ts begins fit de is at each_) = let a = parenthesized_facts e is in lost_after Doomed doomed_endless vs us c h (head_lost c i e l t te f fs word ts begins fit de a.0 a.1 at each_)
 begins_dead u vs us c h (Unsupported.literal {i = i} {e = e} {l = l} {t = t} {te = te} f fs sign ts begins fit de is assigned go) = let a = literal_facts e is in lost_after Doomed doomed_endless vs us c h (assigned_lost c i e l t te f fs sign ts begins fit de a.0 a.1 (assign_assigns sign assigned) go)
-begins_dead u vs us c h (Unsupported.literal_in_head {i = i} {e = e} {w = w} {l = l} {m = m} {fs = fs} {t = t} {te = te} word ts begins fit de is each_) = let a = literal_facts e is in lost_after Doomed doomed_endless vs us c h (head_lost i e w l m fs t te word ts begins fit de a.0 a.1 each_)
+begins_dead u vs us c h (Unsupported.literal_in_head {i = i} {e = e} {l = l} {t = t} {te = te} f fs word ts begins fit de is at each_) = let a = literal_facts e is in lost_after Doomed doomed_endless vs us c h (head_lost c i e l t te f fs word ts begins fit de a.0 a.1 at each_)
 begins_dead u vs us c h (Unsupported.this_outside {t = t} {ts = us_} fs begins is n) = lost_after ShownAt outer_endless vs us c h (this_lost t us_ c fs begins (word_is (codes "this") t is) n)

@@ -7,7 +7,7 @@ use Rattle.js_tree.specs.Plain.{Expr}
 use Rattle.js_text.specs.Token.{Token}
 use Rattle.js_text.specs.declared.punctuator.Punctuator.{Punctuator}
 use Rattle.js_text.specs.declared.punctuator.Punctuator.TheVariants as P
-use Rattle.js_text.specs.Grammar.{first}
+use Rattle.js_reading.specs.Spans.{first}
 use Rattle.js_reading.specs.Kinds.{is_kind}
 use Rattle.js_reading.specs.Slots.{Wanted, Level, WithoutIn, Callee, Slot, Sign, Text, Expr_, Stmt_, Stmts_, Items_, Place_, By, Piece, AnExpr, Branch, Refuse, Pass, Go, Form, Class, Choice}
 use Rattle.js_reading.specs.Slots as slot

@@ -7,7 +7,7 @@ use Rattle.js_reading.proofs.Shapes.{first_append}
 use Rattle.js_text.specs.Token.{Token, Kind}
 use Rattle.js_text.specs.Token as T
 use Rattle.js_text.specs.declared.punctuator.Punctuator.{Punctuator}
-use Rattle.js_text.specs.Grammar.{through, first}
+use Rattle.js_reading.specs.Spans.{through, first}
 use Rattle.js_reading.specs.Slots.{Wanted, Slot, Sign, Text, Expr_, Stmt_, Stmts_, Items_, Place_, By, Piece, AnExpr, AStmt, TheStmts, TheExprs, APlace, Pass, Go, Form, Class, Choice}
 use Rattle.js_reading.specs.Productions.{piece_of}
 use Rattle.js_reading.specs.Choices.{branch}

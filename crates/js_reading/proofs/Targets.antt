@@ -9,8 +9,8 @@ use Rattle.js_tree.specs.Plain.{Expr, Stmt}
 use Rattle.js_tree.specs.Plain as tree
 use Rattle.js_text.specs.Token.{Token, Kind, Word}
 use Rattle.js_text.specs.Token as T
-use Rattle.js_text.specs.Level.{any, assignment}
-use Rattle.js_text.specs.Grammar.{through}
+use Rattle.js_reading.specs.Level.{any, assignment}
+use Rattle.js_reading.specs.Spans.{through}
 use Rattle.js_text.specs.declared.punctuator.Punctuator.TheVariants as P
 use Rattle.js_reading.specs.Slots.{Wanted, WithoutIn, Slot, Sign, Expr_, By, Piece, AnExpr, AStmt, IsIn, IsOf, Form}
 use Rattle.js_reading.specs.Slots as slot
@@ -19,7 +19,7 @@ use Rattle.js_reading.specs.Choices.{each_rest}
 use Rattle.js_reading.specs.Makes.{build, is_target, is_async, bare_in}
 use Rattle.js_reading.specs.Sentences.{fits, continues, Spells}
 use Rattle.js_reading.specs.Turns.{place, Frame, InForm, Config, Due, want, wanted, banned, shift, have, turn, run, then_run}
-use Rattle.js_reading.specs.Unsupported.{assigns, is_each, is_parenthesized_target, is_literal_pattern, in_head, of_head}
+use Rattle.js_reading.specs.Unsupported.{assigns, is_each, is_parenthesized_target, is_literal_pattern, is_head, is_update}
 use Rattle.js_reading.proofs.Firsts.{remade}
 use Rattle.js_reading.proofs.KindsLemmas.{kind_is}
 use Rattle.js_reading.proofs.Runs.{nowhere, by_bool}
@@ -91,7 +91,7 @@ sign_lost i e l f fs sign none assigned go =
     (λ c q. absurd (true≢false (sym go ∙ c))) h)
 
 -- the tokens of an expression that is wanted there lead to it
-comes : (c : Config) (i : ℕ) (e : Expr) (l : Loc) (t : Token) (te : List Token) (f : Frame) (fs : List Frame) (next : Token) (ts : List Token) → turn c t ≡ want t (f ∷ fs) → fits (wanted f) i e ≡ true → Spells (AnExpr i e) l (t ∷ te) next → bare_in e ≡ false →
+pub comes : (c : Config) (i : ℕ) (e : Expr) (l : Loc) (t : Token) (te : List Token) (f : Frame) (fs : List Frame) (next : Token) (ts : List Token) → turn c t ≡ want t (f ∷ fs) → fits (wanted f) i e ≡ true → Spells (AnExpr i e) l (t ∷ te) next → bare_in e ≡ false →
     run c (t ∷ (te ++ next ∷ ts)) ≡ then_run (have (f ∷ fs) (Some (AnExpr i e)) l next) (λ d. run d ts)
 comes c i e l t te f fs next ts begins fit de bare_ = ap (λ o. then_run o (λ d. run d (te ++ next ∷ ts))) begins ∙ complete_expr de f fs ts fit (λ k. bare_)
 
@@ -105,24 +105,38 @@ no_have : (fs : List Frame) (m : Loc) (t : Token) → have fs None m t ≡ None
 no_have [] m t = refl
 no_have (f ∷ fs) m t = refl
 
-pub updated_stops : (i : ℕ) (e : Expr) (o : UpdateOperator) (w l m : Loc) (n : Wanted) (fs : List Frame) (t : Token) (te : List Token) (next : Token) (ts : List Token) → fits n i e ≡ true → Spells (AnExpr i e) m (t ∷ te) next → is_target e ≡ false → bare_in e ≡ false →
-    continues n e next ≡ false → run (Due (slot.PrefixUpdate o) w (Expr_ n ∷ []) [] l fs) (t ∷ (te ++ next ∷ ts)) ≡ None
-updated_stops i e o w l m n fs t te next ts fit de none bare_ go =
-    comes (Due (slot.PrefixUpdate o) w (Expr_ n ∷ []) [] l fs) i e m t te (InForm (slot.PrefixUpdate o) w (Expr_ n) [] []) fs next ts refl fit de bare_
-    ∙ ap (λ x. then_run x (λ d. run d ts)) (cond-false (continues n e next) _ _ go ∙ cond-true (fits n i e) _ _ fit ∙ ap (λ x. have fs x (through w m) next) (no_prefix o i e none (through w m)) ∙ no_have fs (through w m) next)
+update_stops : (i : ℕ) (e : Expr) (f : Frame) (fs : List Frame) (m : Loc) (next : Token) → is_update f ≡ true → fits (wanted f) i e ≡ true → is_target e ≡ false → continues (wanted f) e next ≡ false → have (f ∷ fs) (Some (AnExpr i e)) m next ≡ None
+update_stops i e (InForm (slot.PrefixUpdate o) w (Expr_ n) [] []) fs m next is fit none go =
+    cond-false (continues n e next) _ _ go ∙ cond-true (fits n i e) _ _ fit ∙ ap (λ x. have fs x (through w m) next) (no_prefix o i e none (through w m)) ∙ no_have fs (through w m) next
+update_stops i e f fs m next is fit none go = absurd (true≢false (sym is))
+
+pub updated_stops : (c : Config) (i : ℕ) (e : Expr) (l : Loc) (t : Token) (te : List Token) (f : Frame) (fs : List Frame) (next : Token) (ts : List Token) → turn c t ≡ want t (f ∷ fs) → fits (wanted f) i e ≡ true → Spells (AnExpr i e) l (t ∷ te) next → is_target e ≡ false → bare_in e ≡ false →
+    is_update f ≡ true → continues (wanted f) e next ≡ false → run c (t ∷ (te ++ next ∷ ts)) ≡ None
+updated_stops c i e l t te f fs next ts begins fit de none bare_ is go = comes c i e l t te f fs next ts begins fit de bare_ ∙ ap (λ x. then_run x (λ d. run d ts)) (update_stops i e f fs l next is fit none go)
 
 -- ---- in the head of a `for`
 
-each_lost : (i : ℕ) (e : Expr) (w m : Loc) (fs : List Frame) (word : Token) → fits (WithoutIn any) i e ≡ true → is_target e ≡ false → is_each word ≡ true → Lost (have (of_head w fs) (Some (AnExpr i e)) m word)
-each_lost i e w m fs word fit none each_ = either_of (is_word (codes "in") word) (is_word (codes "of") word) each_ by_in by_of
+pub heads_in : (i : ℕ) (e : Expr) (n : ℕ) (w m : Loc) (fs : List Frame) (word : Token) → fits (WithoutIn n) i e ≡ true → is_word (codes "in") word ≡ true →
+    have (InForm slot.For w (Expr_ (WithoutIn n)) (By slot.AfterTarget ∷ []) [] ∷ fs) (Some (AnExpr i e)) m word ≡ Some (Due slot.For w (each_rest any) (AnExpr i e ∷ IsIn ∷ []) word.loc fs)
+heads_in i e n w m fs word fit q =
+    subst (λ k. have (InForm slot.For w (Expr_ (WithoutIn n)) (By slot.AfterTarget ∷ []) [] ∷ fs) (Some (AnExpr i e)) m (remade word k) ≡ Some (Due slot.For w (each_rest any) (AnExpr i e ∷ IsIn ∷ []) word.loc fs)) (sym (kind_is (Word (codes "in")) word.kind q)) (cond-true (fits (WithoutIn n) i e) _ _ fit)
+
+pub heads_of : (i : ℕ) (e : Expr) (n : ℕ) (w m : Loc) (fs : List Frame) (word : Token) → fits (WithoutIn n) i e ≡ true → is_word (codes "of") word ≡ true →
+    have (InForm slot.For w (Expr_ (WithoutIn n)) (By slot.AfterTarget ∷ []) [] ∷ fs) (Some (AnExpr i e)) m word ≡ Some (Due slot.For w (each_rest assignment) (AnExpr i e ∷ IsOf ∷ []) word.loc fs)
+heads_of i e n w m fs word fit q =
+    subst (λ k. have (InForm slot.For w (Expr_ (WithoutIn n)) (By slot.AfterTarget ∷ []) [] ∷ fs) (Some (AnExpr i e)) m (remade word k) ≡ Some (Due slot.For w (each_rest assignment) (AnExpr i e ∷ IsOf ∷ []) word.loc fs)) (sym (kind_is (Word (codes "of")) word.kind q)) (cond-true (fits (WithoutIn n) i e) _ _ fit)
+
+each_lost : (i : ℕ) (e : Expr) (f : Frame) (m : Loc) (fs : List Frame) (word : Token) → is_head f ≡ true → fits (wanted f) i e ≡ true → is_target e ≡ false → is_each word ≡ true → Lost (have (f ∷ fs) (Some (AnExpr i e)) m word)
+each_lost i e (InForm slot.For w (Expr_ (WithoutIn n)) (By slot.AfterTarget ∷ []) []) m fs word is fit none each_ = either_of (is_word (codes "in") word) (is_word (codes "of") word) each_ by_in by_of
   where
-    by_in : is_word (codes "in") word ≡ true → Lost (have (of_head w fs) (Some (AnExpr i e)) m word)
-    by_in q = lost_of _ (λ d h. lands Doomed (sym (subst (λ k. have (of_head w fs) (Some (AnExpr i e)) m (remade word k) ≡ Some (Due slot.For w (each_rest any) (AnExpr i e ∷ IsIn ∷ []) word.loc fs)) (sym (kind_is (Word (codes "in")) word.kind q)) (cond-true (fits (WithoutIn any) i e) _ _ fit)) ∙ h) (inr (inl (λ l qs. no_for_in i e none l qs))))
+    by_in : is_word (codes "in") word ≡ true → Lost (have (InForm slot.For w (Expr_ (WithoutIn n)) (By slot.AfterTarget ∷ []) [] ∷ fs) (Some (AnExpr i e)) m word)
+    by_in q = lost_of _ (λ d h. lands Doomed (sym (heads_in i e n w m fs word fit q) ∙ h) (inr (inl (λ l qs. no_for_in i e none l qs))))
 
-    by_of : is_word (codes "of") word ≡ true → Lost (have (of_head w fs) (Some (AnExpr i e)) m word)
-    by_of q = lost_of _ (λ d h. lands Doomed (sym (subst (λ k. have (of_head w fs) (Some (AnExpr i e)) m (remade word k) ≡ Some (Due slot.For w (each_rest assignment) (AnExpr i e ∷ IsOf ∷ []) word.loc fs)) (sym (kind_is (Word (codes "of")) word.kind q)) (cond-true (fits (WithoutIn any) i e) _ _ fit)) ∙ h) (inr (inl (λ l qs. no_for_of i e none l qs))))
+    by_of : is_word (codes "of") word ≡ true → Lost (have (InForm slot.For w (Expr_ (WithoutIn n)) (By slot.AfterTarget ∷ []) [] ∷ fs) (Some (AnExpr i e)) m word)
+    by_of q = lost_of _ (λ d h. lands Doomed (sym (heads_of i e n w m fs word fit q) ∙ h) (inr (inl (λ l qs. no_for_of i e none l qs))))
+each_lost i e f m fs word is fit none each_ = absurd (true≢false (sym is))
 
-pub head_lost : (i : ℕ) (e : Expr) (w l m : Loc) (fs : List Frame) (t : Token) (te : List Token) (word : Token) (ts : List Token) → turn (in_head w l fs) t ≡ want t (of_head w fs) → fits (WithoutIn any) i e ≡ true → Spells (AnExpr i e) m (t ∷ te) word → is_target e ≡ false → bare_in e ≡ false →
-    is_each word ≡ true → Lost (run (in_head w l fs) (t ∷ (te ++ word ∷ ts)))
-head_lost i e w l m fs t te word ts begins fit de none bare_ each_ =
-    subst Lost (sym (comes (in_head w l fs) i e m t te (InForm slot.For w (Expr_ (WithoutIn any)) (By slot.AfterTarget ∷ []) []) fs word ts begins fit de bare_)) (lost_then (have (of_head w fs) (Some (AnExpr i e)) m word) ts (each_lost i e w m fs word fit none each_))
+pub head_lost : (c : Config) (i : ℕ) (e : Expr) (l : Loc) (t : Token) (te : List Token) (f : Frame) (fs : List Frame) (word : Token) (ts : List Token) → turn c t ≡ want t (f ∷ fs) → fits (wanted f) i e ≡ true → Spells (AnExpr i e) l (t ∷ te) word → is_target e ≡ false → bare_in e ≡ false →
+    is_head f ≡ true → is_each word ≡ true → Lost (run c (t ∷ (te ++ word ∷ ts)))
+head_lost c i e l t te f fs word ts begins fit de none bare_ is each_ =
+    subst Lost (sym (comes c i e l t te f fs word ts begins fit de bare_)) (lost_then (have (f ∷ fs) (Some (AnExpr i e)) l word) ts (each_lost i e f l fs word is fit none each_))

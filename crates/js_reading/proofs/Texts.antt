@@ -27,7 +27,7 @@ lexes_then (one_more h d) more = one_more h (lexes_then d more)
 pub runs_then : (ts us : List Token) (c : Config) → run Start ts ≡ Some c → run Start (ts ++ us) ≡ run c us
 runs_then ts us c h = run_append Start ts us ∙ ap (λ o. then_run o (λ d. run d us)) h
 
-one_run : (t : Token) (c : Config) → run c (t ∷ []) ≡ turn c t
+pub one_run : (t : Token) (c : Config) → run c (t ∷ []) ≡ turn c t
 one_run t c = elim (turn c t) as (λ o. then_run o (λ d. run d []) ≡ o) [ None ↦ refl | Some d ↦ refl ]
 
 -- the first turn of a run, and the others
@@ -41,7 +41,7 @@ first_turn {A = A} c d t ts h go = by_turn (turn c t) refl h
 -- ---- what leads to a place
 
 -- one token more
-pub led_on : {text : List ℕ} {place after : Place} {c d : Config} (t : Token) → Leads text place c → asked_for (goal_of_place c) place ≡ Some (t, after) → turn c t ≡ Some d → Leads text after d
+abbrev pub led_on : {text : List ℕ} {place after : Place} {c d : Config} (t : Token) → Leads text place c → asked_for (goal_of_place c) place ≡ Some (t, after) → turn c t ≡ Some d → Leads text after d
 led_on {after = after} {c = c} {d = d} t led h q = record {
   tokens = led.tokens ++ t ∷ [];
   lexed = lexes_then led.lexed (one_more (asked_next (goal_of_place c) _ (t, after) h (asks led.tokens t c d led.ran q)) no_token);
@@ -90,16 +90,16 @@ finishes tree ts d = by_end (run Start ts) refl (complete d)
     by_end (Some c) q h = absurd cc
 
 -- of a text with a tree, the tokens that lead to a place begin those of its tree
-record Onward (text : List ℕ) (tree : File) (ts : List Token) (c : Config) (place : Place) : Type 0 where
+pub record Onward (text : List ℕ) (tree : File) (ts : List Token) (c : Config) (place : Place) : Type 0 where
   statements : Stmts
-  others : List Token
+  pub others : List Token
   end : Place
-  sentence : Sentence (without_comments tree) (ts ++ others)
+  pub sentence : Sentence (without_comments tree) (ts ++ others)
   comments : comments_of tree ≡ comments_of_tokens (chars text) (ts ++ others)
   lexed : Lexes place others end
   ran : run c others ≡ Some (Finished statements)
 
-onward : (text : List ℕ) (tree : File) (place : Place) (c : Config) (led : Leads text place c) → Reads text tree → Onward text tree led.tokens c place
+pub onward : (text : List ℕ) (tree : File) (place : Place) (c : Config) (led : Leads text place c) → Reads text tree → Onward text tree led.tokens c place
 onward text tree place c led reads = by_along (along [] led.tokens reads.tokens Start c (Finished done.statements) (start_of text) place reads.end refl led.ran led.lexed done.ran reads.lexed)
   where
     done : Finishes (without_comments tree) reads.tokens

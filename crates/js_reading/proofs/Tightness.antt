@@ -12,8 +12,8 @@ use Rattle.js_tree.specs.Plain as tree
 use Rattle.js_text.specs.Token.{Token, Kind, Word}
 use Rattle.js_text.specs.Token as T
 use Rattle.js_text.specs.declared.punctuator.Punctuator.TheVariants as P
-use Rattle.js_text.specs.Grammar.{through, first}
-use Rattle.js_text.specs.Level.{assignment, binary_level, right_level}
+use Rattle.js_reading.specs.Spans.{through, first}
+use Rattle.js_reading.specs.Level.{assignment, binary_level, right_level}
 use Rattle.js_reading.specs.Slots.{Wanted, Level, WithoutIn, Callee, Slot, Sign, Text, Expr_, Stmt_, Stmts_, Items_, Place_, By, Piece, AnExpr, TheStmts, TheExprs, AWord, AText, APlace, Missing, Branch, Refuse, Pass, Go, Form, Choice}
 use Rattle.js_reading.specs.Slots as slot
 use Rattle.js_reading.specs.Productions.{primary, bound_name, mark, is_mark, slots, after_first, prefix, join, prefixes, joins, as_it_is, logical_right}

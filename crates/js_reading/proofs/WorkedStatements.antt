@@ -10,7 +10,7 @@ use Rattle.js_text.specs.Word.{reserved_word}
 use Rattle.js_reading.specs.Kinds.{is_keyword}
 use Rattle.js_reading.specs.Sentences.{continues}
 use Rattle.js_reading.specs.Slots.{Level, WithoutIn}
-use Rattle.js_text.specs.Level.{any}
+use Rattle.js_reading.specs.Level.{any}
 use Rattle.js_tree.specs.Plain as tree
 use Rattle.js_tree.specs.declared.place.Loc.{Loc}
 use Rattle.js_reading.proofs.Worked.{token, tokens, reads}

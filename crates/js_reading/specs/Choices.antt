@@ -3,7 +3,7 @@ use Rattle.std.specs.Prelude.{ℕ, Bool, true, false, not, ◌&&◌, ◌||◌, L
 use Rattle.js_tree.specs.declared.operators.VariableKind.TheVariants as variable
 use Rattle.js_text.specs.Token.{Token, Kind, TemplateMiddle, End}
 use Rattle.js_text.specs.declared.punctuator.Punctuator.TheVariants as P
-use Rattle.js_text.specs.Level.{any, assignment}
+use Rattle.js_reading.specs.Level.{any, assignment}
 use Rattle.js_reading.specs.Kinds.{is_kind}
 use Rattle.js_reading.specs.Slots.{Level, WithoutIn, BoundName, Key, LaterText, Choice, Slot, Sign, Text, Expr_, Stmt_, Stmts_, Place_, By, Piece, AKind, Missing, IsComputed, IsMethod, IsIn, IsOf, Branch, Refuse, Pass, Go}
 use Rattle.js_reading.specs.Slots as slot

@@ -1,3 +1,5 @@
+pub mod Level
+pub mod Spans
 pub mod Kinds
 pub mod Slots
 pub mod Productions
@@ -7,6 +9,8 @@ pub mod Outside
 pub mod Sentences
 pub mod Turns
 pub mod Unsupported
+pub mod Found
 pub mod Open
 pub mod Reads
 pub mod Laws
+pub mod Placed

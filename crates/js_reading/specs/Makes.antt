@@ -12,8 +12,8 @@ use Rattle.js_tree.specs.declared.operators.VariableKind.{VariableKind}
 use Rattle.js_tree.specs.declared.operators.VariableKind.TheVariants as variable
 use Rattle.js_tree.specs.Plain.{Expr, Exprs, no_expr, more_expr, Stmt, Stmts, no_stmt, more_stmt, MaybeExpr, none_expr, some_expr, none_stmt, some_stmt, none_pattern, some_pattern}
 use Rattle.js_tree.specs.Plain as tree
-use Rattle.js_text.specs.Level.{any, assignment, binary_level, logical_level}
-use Rattle.js_text.specs.Grammar.{through}
+use Rattle.js_reading.specs.Level.{any, assignment, binary_level, logical_level}
+use Rattle.js_reading.specs.Spans.{through}
 use Rattle.js_reading.specs.Kinds.{is_keyword}
 use Rattle.js_reading.specs.Slots.{Piece, AnExpr, AStmt, TheStmts, TheExprs, AWord, AKey, AText, APlace, AKind, Missing, IsComputed, IsMethod, IsIn, IsOf, Form}
 use Rattle.js_reading.specs.Slots as slot

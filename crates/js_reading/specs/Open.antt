@@ -7,8 +7,8 @@ use Rattle.js_text.specs.Token.{Token, Kind}
 use Rattle.js_text.specs.Token as T
 use Rattle.js_text.specs.declared.punctuator.Punctuator.{Punctuator}
 use Rattle.js_text.specs.declared.punctuator.Punctuator.TheVariants as P
-use Rattle.js_text.specs.Level.{any, assignment}
-use Rattle.js_text.specs.Grammar.{first}
+use Rattle.js_reading.specs.Level.{any, assignment}
+use Rattle.js_reading.specs.Spans.{first}
 use Rattle.js_reading.specs.Slots.{Wanted, Level, Slot, Expr_, Stmt_, Stmts_, Items_, By, Piece, AnExpr, AStmt, TheStmts, TheExprs, Pass, Go, Form, Choice}
 use Rattle.js_reading.specs.Slots as slot
 use Rattle.js_reading.specs.Productions.{slots, prefix, statement, join, form_level}

@@ -24,7 +24,7 @@ use Rattle.js_text.specs.declared.punctuator.Punctuator.{Punctuator}
 use Rattle.js_text.specs.declared.punctuator.Punctuator.TheVariants as P
 use Rattle.js_text.specs.Identifier.{decoded}
 use Rattle.js_text.specs.Units.{units_of, template_units}
-use Rattle.js_text.specs.Level.{any, assignment, binary_level, left_level, right_level, logical_level}
+use Rattle.js_reading.specs.Level.{any, assignment, binary_level, left_level, right_level, logical_level}
 use Rattle.js_reading.specs.Kinds.{is_kind, is_keyword}
 use Rattle.js_reading.specs.Slots.{Wanted, Level, WithoutIn, Callee, Class, BoundName, AnyName, Key, FirstText, LaterText, Choice, Slot, Sign, Text, Expr_, Stmt_, Stmts_, Items_, Place_, By, Piece, AnExpr, AWord, AKey, AText, AKind, Missing, IsComputed, IsMethod, IsIn, IsOf, Branch, Refuse, Pass, Go, Form}
 use Rattle.js_reading.specs.Slots as slot

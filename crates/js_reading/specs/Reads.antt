@@ -2,6 +2,7 @@
 use Rattle.std.specs.Prelude.{◌≡◌, ℕ, ◌<◌, List, [], ◌∷◌, ◌++◌, Option, None, Some, if◌then◌else◌}
 use Rattle.std.specs.Option.{option_map}
 use Rattle.std.specs.Str.{chars}
+use Rattle.js_tree.specs.declared.place.Loc.{Loc}
 use Rattle.js_tree.specs.declared.words.Comment.{Comment}
 use Rattle.js_tree.specs.Plain.{File, MakeFile}
 use Rattle.js_tree.specs.Height.{height_file}
@@ -10,10 +11,13 @@ use Rattle.js_text.specs.Gap.{comments_before}
 use Rattle.js_text.specs.declared.goal.Goal.{Goal}
 use Rattle.js_text.specs.declared.goal.Goal.TheVariants as goal
 use Rattle.js_text.specs.Token.{Kind, RegularExpression, TemplateMiddle, TemplateTail, Token}
-use Rattle.js_text.specs.Lex.{next_token, token_place, offset_of}
+use Rattle.js_text.specs.Position.{position_of}
+use Rattle.js_text.specs.Lex.{next_token, token_place, offset_of, characters_of}
 use Rattle.js_reading.specs.Sentences.{Sentence, Dead}
-use Rattle.js_reading.specs.Turns.{Config, run, Start, braced}
+use Rattle.js_reading.specs.Turns.{Config, run, Start, braced, goal_of_place}
 use Rattle.js_reading.specs.Open.{OpensMore}
+use Rattle.js_reading.specs.Unsupported.{Unsupported, Begins}
+use Rattle.js_reading.specs.Found.{Clean}
 
 -- ---- the next token, after white space and comments
 
@@ -102,13 +106,51 @@ pub record NoTree (text : List ℕ) (at : ℕ) : Type 0 where
   pub stuck : Stuck reached.tokens reached.place
   pub none : (tree : File) → Reads text tree → ⊥
 
+-- of the tokens up to there, the one for which the grammar asks there, and any after it, none begins a form that is left out
+pub record Supported (text : List ℕ) (at : ℕ) : Type 0 where
+  pub reached : Reaches text at
+  pub place : Config
+  pub ran : run Start reached.tokens ≡ Some place
+  pub before : Clean reached.tokens
+  pub there : (token : Token) (after end : Place) (others : List Token) → asked_for (goal_of_place place) reached.place ≡ Some (token, after) → Lexes after others end → Clean (reached.tokens ++ token ∷ others)
+
+-- the text has no tree, since the token there begins a form that is left out
+pub record LeftOut (text : List ℕ) (at : ℕ) (form : Unsupported) : Type 0 where
+  pub reached : Reaches text at
+  pub place : Config
+  pub ran : run Start reached.tokens ≡ Some place
+  pub others : List Token
+  pub end : Place
+  pub lexed : Lexes reached.place others end
+  pub begins : Begins form place others
+  pub none : (tree : File) → Reads text tree → ⊥
+
 -- its tree, if it has one, is higher than the limit, since the tokens before begin more levels
 pub record TooHigh (text : List ℕ) (at : ℕ) (limit : ℕ) : Type 0 where
   pub reached : Reaches text at
   pub begun : OpensMore limit reached.tokens
   pub higher : (tree : File) → Reads text tree → limit < height_file tree
 
--- ---- where a reader stands
+-- a form is left out where the token starts that is told by its location
+pub record LeftOutThere (text : List ℕ) (what : Unsupported × Loc) : Type 0 where
+  pub place : Place
+  pub within : characters_of place ≡ chars text
+  pub starts : position_of place ≡ what.1.start
+  pub left_out : LeftOut text (offset_of place) what.0
+
+-- ---- where a reader stands, and how far it looks
+
+-- the next tokens at a place, lexed for Div: two, or fewer where no more stand there
+abbrev pub one_met : Option (Token × Place) → List Token
+one_met None = []
+one_met (Some found) = found.0 ∷ []
+
+abbrev pub two_met : Option (Token × Place) → List Token
+two_met None = []
+two_met (Some found) = found.0 ∷ one_met (next_token goal.Div found.1)
+
+abbrev pub next_two : Place → List Token
+next_two place = two_met (next_token goal.Div place)
 
 -- the tokens of a text up to a place lead to a place of the grammar
 pub record Leads (text : List ℕ) (place : Place) (config : Config) : Type 0 where

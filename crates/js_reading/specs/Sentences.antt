@@ -8,8 +8,8 @@ use Rattle.js_text.specs.Token.{Token, Kind, Word, EscapedWord, Numeral, StringL
 use Rattle.js_text.specs.Token as T
 use Rattle.js_text.specs.declared.punctuator.Punctuator.{Punctuator}
 use Rattle.js_text.specs.declared.punctuator.Punctuator.TheVariants as P
-use Rattle.js_text.specs.Level.{assignment}
-use Rattle.js_text.specs.Grammar.{through, first}
+use Rattle.js_reading.specs.Level.{assignment}
+use Rattle.js_reading.specs.Spans.{through, first}
 use Rattle.js_reading.specs.Kinds.{is_kind}
 use Rattle.js_reading.specs.Outside.{this_stmts}
 use Rattle.js_reading.specs.Slots.{Wanted, Level, WithoutIn, Callee, Slot, Sign, Text, Expr_, Stmt_, Stmts_, Items_, Place_, By, Piece, AnExpr, AStmt, TheStmts, TheExprs, APlace, Pass, Go, Form, Class, Choice}

@@ -8,8 +8,8 @@ use Rattle.js_text.specs.Token.{Token, Kind, End}
 use Rattle.js_text.specs.Token as T
 use Rattle.js_text.specs.declared.punctuator.Punctuator.{Punctuator}
 use Rattle.js_text.specs.declared.punctuator.Punctuator.TheVariants as P
-use Rattle.js_text.specs.Level.{any, assignment}
-use Rattle.js_text.specs.Grammar.{through}
+use Rattle.js_reading.specs.Level.{any, assignment}
+use Rattle.js_reading.specs.Spans.{through}
 use Rattle.js_text.specs.declared.goal.Goal.{Goal}
 use Rattle.js_text.specs.declared.goal.Goal.TheVariants as goal
 use Rattle.js_reading.specs.Kinds.{is_kind}

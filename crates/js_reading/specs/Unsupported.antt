@@ -1,39 +1,20 @@
 -- The forms of the standard that the language leaves out, and what begins each: a token at a place, and those after it.
-use Rattle.std.specs.Prelude.{◌≡◌, ℕ, Bool, true, false, ◌||◌, List, [], ◌∷◌, ◌++◌, Option, Some, codes}
+use Rattle.std.specs.Prelude.{◌≡◌, ℕ, nat_le, Bool, true, false, ◌||◌, List, [], ◌∷◌, ◌++◌, Option, Some, codes}
 use Rattle.js_tree.specs.declared.place.Loc.{Loc}
 use Rattle.js_tree.specs.Plain.{Expr, Exprs}
 use Rattle.js_tree.specs.Plain as tree
-use Rattle.js_tree.specs.declared.operators.UpdateOperator.{UpdateOperator}
-use Rattle.js_text.specs.Level.{any}
 use Rattle.js_text.specs.Token.{Token, Kind, BigInt}
 use Rattle.js_text.specs.Token as T
 use Rattle.js_text.specs.declared.punctuator.Punctuator.TheVariants as P
-use Rattle.js_reading.specs.Slots.{Wanted, WithoutIn, Class, BoundName, AnyName, Key, Slot, Text, Expr_, Items_, By, Piece, AnExpr, TheStmts, IsMethod, Form}
+use Rattle.js_reading.specs.Slots.{WithoutIn, Callee, Class, BoundName, AnyName, Key, Slot, Text, Expr_, Items_, By, Piece, AnExpr, TheStmts, IsMethod, Form}
 use Rattle.js_reading.specs.Slots as slot
-use Rattle.js_reading.specs.Productions.{is_mark, is_word, is_class, is_proto_word, join}
+use Rattle.js_reading.specs.Productions.{call, is_mark, is_word, is_class, is_proto_word, join}
 use Rattle.js_reading.specs.Makes.{is_target}
-use Rattle.js_reading.specs.Sentences.{fits, continues, Spells, SpellsItems}
+use Rattle.js_reading.specs.Sentences.{fits, grip, continues, Spells, SpellsItems}
 use Rattle.js_reading.specs.Turns.{want, wanted, turn, Config, Due, Have, Item, Frame, InForm, InStmts, InItems}
-
-pub data Unsupported : Type 0 where
-  ClassForm : Unsupported
-  Super : Unsupported
-  Import : Unsupported
-  Export : Unsupported
-  NewTarget : Unsupported
-  Spread : Unsupported
-  OptionalChain : Unsupported
-  LogicalAssignment : Unsupported
-  Async : Unsupported
-  Generator : Unsupported
-  Accessor : Unsupported
-  BigIntLiteral : Unsupported
-  ThisOutside : Unsupported
-  Elision : Unsupported
-  Proto : Unsupported
-  TaggedTemplate : Unsupported
-  ParenthesizedTarget : Unsupported
-  BindingPattern : Unsupported
+-- the forms: those of the code
+pub use Rattle.js_reading.specs.declared.unsupported.Unsupported.{Unsupported}
+pub use Rattle.js_reading.specs.declared.unsupported.Unsupported.TheVariants.{ClassForm, Super, Import, Export, NewTarget, Spread, OptionalChain, LogicalAssignment, Async, Generator, Accessor, BigIntLiteral, ThisOutside, Elision, Proto, TaggedTemplate, ParenthesizedTarget, BindingPattern}
 
 -- ---- places
 
@@ -137,12 +118,19 @@ is_literal_pattern (tree.ArrayLiteral l xs) = true
 is_literal_pattern (tree.ObjectLiteral l ps) = true
 is_literal_pattern e = false
 
--- the first part of a `for` is due, and is an expression
-abbrev pub in_head : Loc → Loc → List Frame → Config
-in_head w l fs = Due slot.For w (By slot.Head ∷ []) [] l fs
+-- arguments go on with a name there, or are those of `new`
+abbrev pub takes_call : Frame → Bool
+takes_call (InForm slot.New w (Expr_ Callee) (By slot.Arguments ∷ []) []) = true
+takes_call f = nat_le (grip (wanted f)) call
 
-abbrev pub of_head : Loc → List Frame → List Frame
-of_head w fs = InForm slot.For w (Expr_ (WithoutIn any)) (By slot.AfterTarget ∷ []) [] ∷ fs
+-- the frame of the first part of a `for`, where that is an expression, and of an update's operand
+abbrev pub is_head : Frame → Bool
+is_head (InForm slot.For w (Expr_ (WithoutIn n)) (By slot.AfterTarget ∷ []) []) = true
+is_head f = false
+
+abbrev pub is_update : Frame → Bool
+is_update (InForm (slot.PrefixUpdate o) w (Expr_ n) [] []) = true
+is_update f = false
 
 -- ---- the relations: at a place, these tokens begin with those that begin the form. Where the machine does with a token what it does
 -- ---- where an expression is wanted, one begins
@@ -161,7 +149,7 @@ pub data Stops : Unsupported → Config → List Token → Type 0 where
   async_name : {c : Config} {t : Token} {ts : List Token} (name arrow : Token) → is_word (codes "async") t ≡ true → at_any_name c ≡ false → is_class BoundName name ≡ true → name.line_terminator_before ≡ false → is_mark P.Arrow arrow ≡ true →
       Stops Async c (t ∷ name ∷ arrow ∷ ts)
   -- where an expression begins
-  async_arguments : {c : Config} {t : Token} {b : Bool} {xs : Exprs} {tx : List Token} (f : Frame) (fs : List Frame) (opening closing arrow : Token) (ts : List Token) → turn c t ≡ want t (f ∷ fs) → is_word (codes "async") t ≡ true →
+  async_arguments : {c : Config} {t : Token} {b : Bool} {xs : Exprs} {tx : List Token} (f : Frame) (fs : List Frame) (opening closing arrow : Token) (ts : List Token) → turn c t ≡ want t (f ∷ fs) → takes_call f ≡ true → is_word (codes "async") t ≡ true →
       is_mark P.OpenParenthesis opening ≡ true → opening.line_terminator_before ≡ false → SpellsItems b xs tx closing → is_mark P.CloseParenthesis closing ≡ true → is_mark P.Arrow arrow ≡ true → Stops Async c (t ∷ opening ∷ (tx ++ closing ∷ arrow ∷ ts))
   async_method : {c : Config} {t key : Token} {ts : List Token} → is_word (codes "async") t ≡ true → at_property c ≡ true → (is_class Key key || is_mark P.OpenBracket key) ≡ true → key.line_terminator_before ≡ false → Stops Async c (t ∷ key ∷ ts)
   generator : {c : Config} {t star : Token} {ts : List Token} → is_word (codes "function") t ≡ true → at_any_name c ≡ false → is_mark P.Star star ≡ true → Stops Generator c (t ∷ star ∷ ts)
@@ -174,8 +162,8 @@ pub data Stops : Unsupported → Config → List Token → Type 0 where
   binding : {c : Config} {t : Token} {ts : List Token} → (is_mark P.OpenBracket t || is_mark P.OpenBrace t) ≡ true → at_bound_name c ≡ true → Stops BindingPattern c (t ∷ ts)
   shorthand : {c : Config} {t sign : Token} {ts : List Token} → is_class BoundName t ≡ true → at_property c ≡ true → is_mark P.Assign sign ≡ true → Stops BindingPattern c (t ∷ sign ∷ ts)
   -- the operand of an update, a target in parentheses
-  target_after : {i : ℕ} {e : Expr} {o : UpdateOperator} {w l m : Loc} {n : Wanted} {fs : List Frame} {t : Token} {te : List Token} (next : Token) (ts : List Token) → fits n i e ≡ true → Spells (AnExpr i e) m (t ∷ te) next →
-      is_parenthesized_target e ≡ true → continues n e next ≡ false → Stops ParenthesizedTarget (Due (slot.PrefixUpdate o) w (Expr_ n ∷ []) [] l fs) (t ∷ (te ++ next ∷ ts))
+  target_after : {c : Config} {i : ℕ} {e : Expr} {l : Loc} {t : Token} {te : List Token} (f : Frame) (fs : List Frame) (next : Token) (ts : List Token) → turn c t ≡ want t (f ∷ fs) → fits (wanted f) i e ≡ true → Spells (AnExpr i e) l (t ∷ te) next →
+      is_parenthesized_target e ≡ true → is_update f ≡ true → continues (wanted f) e next ≡ false → Stops ParenthesizedTarget c (t ∷ (te ++ next ∷ ts))
 
 -- all of them: those, and others with which it may go on, up to where the form is whole
 pub data Begins : Unsupported → Config → List Token → Type 0 where
@@ -184,12 +172,12 @@ pub data Begins : Unsupported → Config → List Token → Type 0 where
   -- a target in parentheses: the whole left side of an assignment or an update, and the target of a `for`
   target_before : {c : Config} {i : ℕ} {e : Expr} {l : Loc} {t : Token} {te : List Token} (f : Frame) (fs : List Frame) (sign : Token) (ts : List Token) → turn c t ≡ want t (f ∷ fs) → fits (wanted f) i e ≡ true → Spells (AnExpr i e) l (t ∷ te) sign →
       is_parenthesized_target e ≡ true → assigns (join sign) ≡ true → continues (wanted f) e sign ≡ true → Begins ParenthesizedTarget c (t ∷ (te ++ sign ∷ ts))
-  target_in_head : {i : ℕ} {e : Expr} {w l m : Loc} {fs : List Frame} {t : Token} {te : List Token} (word : Token) (ts : List Token) → turn (in_head w l fs) t ≡ want t (of_head w fs) → fits (WithoutIn any) i e ≡ true → Spells (AnExpr i e) m (t ∷ te) word →
-      is_parenthesized_target e ≡ true → is_each word ≡ true → Begins ParenthesizedTarget (in_head w l fs) (t ∷ (te ++ word ∷ ts))
+  target_in_head : {c : Config} {i : ℕ} {e : Expr} {l : Loc} {t : Token} {te : List Token} (f : Frame) (fs : List Frame) (word : Token) (ts : List Token) → turn c t ≡ want t (f ∷ fs) → fits (wanted f) i e ≡ true → Spells (AnExpr i e) l (t ∷ te) word →
+      is_parenthesized_target e ≡ true → is_head f ≡ true → is_each word ≡ true → Begins ParenthesizedTarget c (t ∷ (te ++ word ∷ ts))
   -- a literal that is the whole left side of `=`, and one that is the target of a `for`
   literal : {c : Config} {i : ℕ} {e : Expr} {l : Loc} {t : Token} {te : List Token} (f : Frame) (fs : List Frame) (sign : Token) (ts : List Token) → turn c t ≡ want t (f ∷ fs) → fits (wanted f) i e ≡ true → Spells (AnExpr i e) l (t ∷ te) sign →
       is_literal_pattern e ≡ true → is_mark P.Assign sign ≡ true → continues (wanted f) e sign ≡ true → Begins BindingPattern c (t ∷ (te ++ sign ∷ ts))
-  literal_in_head : {i : ℕ} {e : Expr} {w l m : Loc} {fs : List Frame} {t : Token} {te : List Token} (word : Token) (ts : List Token) → turn (in_head w l fs) t ≡ want t (of_head w fs) → fits (WithoutIn any) i e ≡ true → Spells (AnExpr i e) m (t ∷ te) word →
-      is_literal_pattern e ≡ true → is_each word ≡ true → Begins BindingPattern (in_head w l fs) (t ∷ (te ++ word ∷ ts))
+  literal_in_head : {c : Config} {i : ℕ} {e : Expr} {l : Loc} {t : Token} {te : List Token} (f : Frame) (fs : List Frame) (word : Token) (ts : List Token) → turn c t ≡ want t (f ∷ fs) → fits (wanted f) i e ≡ true → Spells (AnExpr i e) l (t ∷ te) word →
+      is_literal_pattern e ≡ true → is_head f ≡ true → is_each word ≡ true → Begins BindingPattern c (t ∷ (te ++ word ∷ ts))
   -- `this` where an expression begins in no function
   this_outside : {c : Config} {t : Token} {ts : List Token} (fs : List Frame) → turn c t ≡ want t fs → is_word (codes "this") t ≡ true → in_function fs ≡ false → Begins ThisOutside c (t ∷ ts)

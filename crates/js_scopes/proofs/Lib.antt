@@ -1,3 +1,9 @@
+pub mod Again
+pub mod Clashing
+pub mod Firsts
 pub mod Keys
 pub mod Lengths
+pub mod Rounds
+pub mod RuleLists
 pub mod Sorted
+pub mod Steps

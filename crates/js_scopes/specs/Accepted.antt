@@ -1,11 +1,11 @@
 -- Which sources the suite accepts, and as which tree.
-use Rattle.std.specs.Prelude.{◌≡◌, ℕ, ◌≤◌, List, None, length}
+use Rattle.std.specs.Prelude.{◌≡◌, ℕ, ◌≤◌, false, List, None, length}
 use Rattle.std.specs.Str.{IsUtf8}
 use Rattle.js_text.specs.Limits.{source_limits}
-use Rattle.js_text.specs.Reads.{Reads}
+use Rattle.js_reading.specs.Reads.{Reads}
 use Rattle.js_tree.specs.Plain.{File}
 use Rattle.js_tree.specs.Height.{height_file}
-use Rattle.js_scopes.specs.Checks.{first_reserved}
+use Rattle.js_scopes.specs.Checks.{first_fault}
 
 -- the bytes are a source of this tree: UTF-8 within the limits, read to the tree, which breaks no early rule
 pub record Accepted (bytes : List ℕ) (tree : File) : Type 0 where
@@ -13,4 +13,4 @@ pub record Accepted (bytes : List ℕ) (tree : File) : Type 0 where
   pub utf8 : IsUtf8 bytes
   pub reads : Reads bytes tree
   pub low : height_file tree ≤ source_limits.height
-  pub unbroken : first_reserved tree ≡ None
+  pub unbroken : first_fault false tree ≡ None

@@ -1,6 +1,12 @@
 pub mod Accepted
 pub mod Checks
+pub mod Declarations
+pub mod Labels
 pub mod Mentions
 pub mod Names
+pub mod Order
 pub mod Required
 pub mod Reserved
+pub mod Scopes
+pub mod Targets
+pub mod private

@@ -1,5 +1,5 @@
 -- The words that are no names beside the keywords, which no reader takes for one.
-use Rattle.std.specs.Prelude.{ℕ, Bool, ◌||◌, List, [], ◌∷◌, codes}
+use Rattle.std.specs.Prelude.{ℕ, Bool, not, ◌||◌, ◌&&◌, List, [], ◌∷◌, codes}
 use Rattle.std.specs.List.{list_any}
 use Rattle.std.specs.Str.{bytes_eq}
 
@@ -10,7 +10,11 @@ strict_words = codes "implements" ∷ codes "interface" ∷ codes "let" ∷ code
 
 -- the names that the suite keeps for itself or gives no meaning: they may be neither bound nor referred to
 abbrev pub refused_names : List (List ℕ)
-refused_names = codes "Infinity" ∷ codes "NaN" ∷ codes "__coverage__" ∷ codes "arguments" ∷ codes "eval" ∷ codes "globalThis" ∷ []
+refused_names = codes "Infinity" ∷ codes "NaN" ∷ codes "__coverage__" ∷ codes "arguments" ∷ codes "eval" ∷ []
+
+-- the name that the suite keeps for what it writes itself
+abbrev pub own_name : List ℕ
+own_name = codes "globalThis"
 
 abbrev pub is_among : List (List ℕ) → List ℕ → Bool
 is_among words word = list_any (λ other. bytes_eq word other) words
@@ -19,5 +23,6 @@ is_among words word = list_any (λ other. bytes_eq word other) words
 unfoldable pub is_strict : List ℕ → Bool
 is_strict word = is_among strict_words word
 
-unfoldable pub is_reserved : List ℕ → Bool
-is_reserved word = is_among strict_words word || is_among refused_names word
+-- `again` is for a text that the suite has written
+unfoldable pub is_reserved : Bool → List ℕ → Bool
+is_reserved again word = is_among strict_words word || is_among refused_names word || (not again && bytes_eq word own_name)

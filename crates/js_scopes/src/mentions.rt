@@ -1,13 +1,14 @@
 ghost use Rattle.std.specs.Prelude.{◌≡◌, ◌++◌, IfOk};
-ghost use Rattle.js_scopes.specs.Mentions.{asked, asked_expr, asked_first, is_require, label, label_if, member, own_name, own_name_if, start, variable, own_mention, own_of_expr, own_of_stmt, nothing_told, mentions_file};
+ghost use Rattle.js_scopes.specs.Mentions.{asked, asked_expr, asked_first, is_require, label, label_if, member, own_name, own_name_if, variable, own_mention, own_of_expr, own_of_stmt, nothing_told, mentions_file};
 ghost use Rattle.js_scopes.specs.declared.mention.Mention.{Mention};
 ghost use Rattle.js_tree.specs.Tree.{plain_file, plain_expr, plain_exprs, plain_stmt, plain_property, plain_property_key, plain_pattern};
 ghost use Rattle.js_walk.specs.Part.{AProperty, APropertyKey, APattern};
 
 use crate::mention::Mention;
+use crate::place::start_of;
 use items::{Items, Memory, Text};
 use js_tree::{
-    Expr, ExprNode, File, Identifier, Loc, Pattern, PatternNode, Pos, Property, PropertyKey,
+    Expr, ExprNode, File, Identifier, Loc, Pattern, PatternNode, Property, PropertyKey,
     PropertyNode, Stmt, StmtNode,
 };
 use js_walk::{Part, Visitor, visit_file};
@@ -57,16 +58,6 @@ impl Visitor for Collector {
             _ => (),
         }
         Ok(Some(()))
-    }
-}
-
-/// Where a node starts.
-fn start_of(loc: &Option<Loc>) -> Pos
-    ensures { result ≡ start loc.now }
-{
-    match loc {
-        None => Pos { line: 1, column: 0 },
-        Some(loc) => loc.start,
     }
 }
 

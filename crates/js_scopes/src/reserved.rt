@@ -4,10 +4,10 @@ ghost use Rattle.js_scopes.specs.Reserved as spec;
 // The words stand by their lengths, so that each is sought among a few.
 
 /// Whether a word that is no keyword may be no name: strict code reserves it, or the suite
-/// refuses it.
+/// refuses it, but `globalThis` not again in what it has written.
 #[tactic(auto, using(crate::proofs::Lengths::length_rules), unfolding(crate::specs::Reserved::is_reserved))]
-pub(crate) fn is_reserved(word: &str) -> bool
-    ensures { result ≡ spec.is_reserved word.now }
+pub(crate) fn is_reserved(again: bool, word: &str) -> bool
+    ensures { result ≡ spec.is_reserved again word.now }
 {
     match word.len() {
         3 => word == "let" || word == "NaN",
@@ -17,7 +17,7 @@ pub(crate) fn is_reserved(word: &str) -> bool
         7 => word == "package" || word == "private",
         8 => word == "Infinity",
         9 => word == "interface" || word == "protected" || word == "arguments",
-        10 => word == "implements" || word == "globalThis",
+        10 => word == "implements" || (!again && word == "globalThis"),
         12 => word == "__coverage__",
         _ => false,
     }

@@ -1,57 +1,23 @@
-ghost use Rattle.std.specs.Prelude.{◌≡◌, if◌then◌else◌, Some, None, IfOk, IfErr};
+ghost use Rattle.std.specs.Prelude.{◌≡◌, ◌≢◌, true, false, Some, None, OnOk, IfOk, IfErr};
 ghost use Rattle.std.specs.Cmp.Lexicographic.{slice_cmp};
 ghost use Rattle.std.specs.List.Sorted.{IsStrictlySortedBy};
 ghost use Rattle.std.specs.Ordering.{nat_cmp};
-ghost use Rattle.js_scopes.specs.Checks.{first_reserved, first_reserved_among, reserved_at};
+ghost use Rattle.js_scopes.specs.Checks.{first_fault};
 ghost use Rattle.js_scopes.specs.Required.{required_of};
 ghost use Rattle.js_scopes.specs.Mentions.{start, mentions_file};
 ghost use Rattle.js_scopes.specs.Names.{names_of};
-ghost use Rattle.js_scopes.specs.Reserved.{is_reserved, is_strict};
 ghost use Rattle.js_tree.specs.Tree.{plain_file};
 
+use crate::checks::faults_of;
+use crate::fault::{ScopeFault, ScopeFaultKind};
 use crate::mention::Mention;
 use crate::mentions::mentions_of;
 use crate::names::names_in;
 use crate::required::required_in;
-use crate::reserved::{is_reserved, is_strict};
-use items::{Items, Memory, Text};
-use js_tree::{File, Name, Pos};
+use items::{Items, Text};
+use js_tree::{File, Name};
 use std::alloc::Global;
 use std::marker::Model;
-
-/// What the early rules refuse.
-#[derive(Clone, Copy, Debug, PartialEq, Eq)]
-pub struct ScopeFault {
-    /// Where the name's node starts: line 1, column 0 where it has no place, and for `Memory`.
-    pub at: Pos,
-    /// Which rule it breaks.
-    pub kind: ScopeFaultKind,
-}
-
-/// Why a file is refused.
-#[derive(Clone, Copy, Debug, PartialEq, Eq)]
-pub enum ScopeFaultKind {
-    /// A name that the suite refuses is bound or referred to, or a word that strict code reserves is
-    /// a name or a label.
-    Reserved,
-    /// There was not enough memory.
-    Memory,
-}
-
-impl From<Memory> for ScopeFault {
-    ghost use Rattle.std.specs.Prelude.{◌≡◌, None};
-    ghost use Rattle.js_scopes.specs.Mentions.{start};
-    ghost use Rattle.js_scopes.specs.declared.rules.ScopeFaultKind.TheVariants as kind;
-
-    ghost from_gives = { λ _ fault. fault ≡ record { at = start None; kind = kind.Memory } };
-
-    fn from(_error: Memory) -> ScopeFault {
-        ScopeFault {
-            at: Pos { line: 1, column: 0 },
-            kind: ScopeFaultKind::Memory,
-        }
-    }
-}
 
 /// A file that breaks no early rule, with the names that it writes and the files that it asks for.
 #[derive(Drop)]
@@ -68,9 +34,9 @@ struct Lists {
 }
 
 impl Model for Checked {
-    ghost use Rattle.std.specs.Prelude.{◌≡◌, None};
+    ghost use Rattle.std.specs.Prelude.{◌≡◌, true, None};
     ghost use Rattle.js_scopes.specs.Required.{required_of};
-    ghost use Rattle.js_scopes.specs.Checks.{first_reserved};
+    ghost use Rattle.js_scopes.specs.Checks.{first_fault};
     ghost use Rattle.js_scopes.specs.Mentions.{mentions_file};
     ghost use Rattle.js_scopes.specs.Names.{names_of};
     ghost use Rattle.js_tree.specs.Tree.{plain_file};
@@ -83,7 +49,7 @@ impl Model for Checked {
 
     ghost view = { λ checked. checked.file };
 
-    ghost invariant = { λ checked. (first_reserved (plain_file checked.file) ≡ None)
+    ghost invariant = { λ checked. (first_fault true (plain_file checked.file) ≡ None)
         × (checked.lists.names ≡ names_of (mentions_file (plain_file checked.file)))
         × (checked.lists.required ≡ required_of (mentions_file (plain_file checked.file))) };
 }
@@ -92,7 +58,7 @@ impl Checked {
     /// The file, lent.
     pub fn file(&self) -> &File
         ensures same { result.now ≡ self.now }
-        ensures accepted { first_reserved (plain_file result.now) ≡ None }
+        ensures accepted { first_fault true (plain_file result.now) ≡ None }
     {
         &self.file
     }
@@ -100,7 +66,7 @@ impl Checked {
     /// The file itself. It takes no memory.
     pub fn into_file(self) -> File
         ensures same { result ≡ self }
-        ensures accepted { first_reserved (plain_file result) ≡ None }
+        ensures accepted { first_fault true (plain_file result) ≡ None }
     {
         let Checked { file, lists: _ } = self;
         file
@@ -127,66 +93,63 @@ impl Checked {
 }
 
 /// The file, where it breaks no early rule. Else, or on want of memory, the file comes back with
-/// the fault that is the first in its text.
+/// the fault that is the first in its text: of those at one place, the first in the order of the
+/// kinds.
 pub fn check(alloc: Global, file: File) -> Result<Checked, (File, ScopeFault)>
-    ensures accepted { IfOk result (λ checked. first_reserved (plain_file file) ≡ None) }
+    ensures accepted { OnOk result (first_fault false (plain_file file) ≡ None) }
     ensures file { IfOk result (λ checked. checked ≡ file) }
-    ensures fault { IfErr result (λ refused. refused.1.kind ≡ ScopeFaultKind.Reserved → first_reserved (plain_file file) ≡ Some refused.1.at) }
+    ensures fault { IfErr result (λ refused. refused.1.kind ≢ ScopeFaultKind.Memory → first_fault false (plain_file file) ≡ Some refused.1) }
     ensures memory { IfErr result (λ refused. refused.1.kind ≡ ScopeFaultKind.Memory → refused.1.at ≡ start None) }
     ensures file_back { IfErr result (λ refused. refused.0 ≡ file) }
 {
-    match lists_of(alloc, &file) {
+    match lists_of(alloc, false, &file) {
+        Ok(lists) => Ok(Checked { file, lists }),
+        Err(fault) => Err((file, fault)),
+    }
+}
+
+/// The same for a file that the suite has written: the name `globalThis` may stand in it.
+pub fn check_again(alloc: Global, file: File) -> Result<Checked, (File, ScopeFault)>
+    ensures accepted { OnOk result (first_fault true (plain_file file) ≡ None) }
+    ensures file { IfOk result (λ checked. checked ≡ file) }
+    ensures fault { IfErr result (λ refused. refused.1.kind ≢ ScopeFaultKind.Memory → first_fault true (plain_file file) ≡ Some refused.1) }
+    ensures memory { IfErr result (λ refused. refused.1.kind ≡ ScopeFaultKind.Memory → refused.1.at ≡ start None) }
+    ensures file_back { IfErr result (λ refused. refused.0 ≡ file) }
+{
+    match lists_of(alloc, true, &file) {
         Ok(lists) => Ok(Checked { file, lists }),
         Err(fault) => Err((file, fault)),
     }
 }
 
 /// The lists of a file that breaks no early rule.
-#[tactic(auto, unfolding(crate::specs::Checks::first_reserved))]
-fn lists_of(alloc: Global, file: &File) -> Result<Lists, ScopeFault>
-    ensures accepted { IfOk result (λ _. first_reserved (plain_file file.now) ≡ None) }
+fn lists_of(alloc: Global, again: bool, file: &File) -> Result<Lists, ScopeFault>
+    ensures accepted { OnOk result (first_fault again (plain_file file.now) ≡ None) }
+    ensures allowed { OnOk result (first_fault true (plain_file file.now) ≡ None) }
     ensures names { IfOk result (λ lists. lists.names ≡ names_of (mentions_file (plain_file file.now))) }
     ensures required { IfOk result (λ lists. lists.required ≡ required_of (mentions_file (plain_file file.now))) }
-    ensures fault { IfErr result (λ fault. fault.kind ≡ ScopeFaultKind.Reserved → first_reserved (plain_file file.now) ≡ Some fault.at) }
+    ensures fault { IfErr result (λ fault. fault.kind ≢ ScopeFaultKind.Memory → first_fault again (plain_file file.now) ≡ Some fault) }
     ensures memory { IfErr result (λ fault. fault.kind ≡ ScopeFaultKind.Memory → fault.at ≡ start None) }
 {
     let found = mentions_of(alloc, file)?;
-    if let Some(at) = first_in(found.as_slice()) {
-        return Err(ScopeFault {
-            at,
-            kind: ScopeFaultKind::Reserved,
-        });
-    }
+    first_of(alloc, again, file, found.as_slice())?;
     let required = required_in(alloc, found.as_slice())?;
     let names = names_in(alloc, found)?;
     Ok(Lists { names, required })
 }
 
-/// The first place where a reserved word is a name.
-fn first_in(found: &[Mention]) -> Option<Pos>
-    ensures { result ≡ first_reserved_among found.now }
+/// Nothing, where no rule is broken; else the first that is.
+#[tactic(auto, using(crate::proofs::Again::again_none, crate::proofs::RuleLists::no_memory))]
+fn first_of(alloc: Global, again: bool, file: &File, mentions: &[Mention]) -> Result<(), ScopeFault>
+    requires { mentions.now ≡ mentions_file (plain_file file.now) }
+    ensures accepted { OnOk result (first_fault again (plain_file file.now) ≡ None) }
+    ensures allowed { OnOk result (first_fault true (plain_file file.now) ≡ None) }
+    ensures fault { IfErr result (λ fault. fault.kind ≢ ScopeFaultKind.Memory → first_fault again (plain_file file.now) ≡ Some fault) }
+    ensures memory { IfErr result (λ fault. fault.kind ≡ ScopeFaultKind.Memory → fault.at ≡ start None) }
 {
-    for mention in found {
-        if let Some(at) = reserved_in(mention) {
-            return Some(at);
-        }
+    let found = faults_of(alloc, again, file, mentions)?;
+    match found.first() {
+        None => Ok(()),
+        Some(fault) => Err(fault),
     }
-    None
-}
-
-fn reserved_in(mention: &Mention) -> Option<Pos>
-    ensures { result ≡ reserved_at mention.now }
-{
-    match mention {
-        Mention::Variable(at, name) => when(is_reserved(name.as_str()), *at),
-        Mention::Label(at, name) => when(is_strict(name.as_str()), *at),
-        Mention::Member(_) => None,
-        Mention::Required(_) => None,
-    }
-}
-
-fn when(holds: bool, at: Pos) -> Option<Pos>
-    ensures { result ≡ (if holds then Some at else None) }
-{
-    if holds { Some(at) } else { None }
 }

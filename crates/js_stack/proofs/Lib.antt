@@ -4,3 +4,6 @@ pub mod OnStack
 pub mod Told
 pub mod Passing
 pub mod GoalLemmas
+pub mod SightLemmas
+pub mod ObjectLemmas
+pub mod GroupLemmas

@@ -7,9 +7,10 @@ use Rattle.js_reading.specs.Slots.{Wanted, Slot, Expr_, Level, WithoutIn, Callee
 use Rattle.js_reading.specs.declared.choice.Choice.TheVariants as choice
 use Rattle.js_reading.specs.Turns.{Frame, InForm, InExpression, InStmts, InFile, InItems, inner, place, template_due}
 use Rattle.js_reading.specs.Open.{lift, up}
+use Rattle.js_reading.specs.Unsupported.{in_function}
 use Rattle.js_stack.specs.declared.stack.Counts.{Counts}
 use Rattle.js_stack.specs.declared.stack.Held.{Held}
-use Rattle.js_stack.specs.Stack.{deeper, depth, higher, inner_of, place_over, template_over, template_slots, template_next, no_slot, Counted, Over, frames_of, counted, stack_of, is_counted}
+use Rattle.js_stack.specs.Stack.{deeper, depth, higher, inner_of, place_over, template_over, function_over, template_slots, template_next, no_slot, Counted, Over, frames_of, counted, stack_of, is_counted, first_frame}
 use Rattle.js_grammar.specs.declared.slot.Slot as code
 use Rattle.js_grammar.specs.View.{plain_slot, plain_slots}
 use Rattle.js_stack.specs.Left.{first_slot}
@@ -37,6 +38,11 @@ counted_pop hs h c = subst counted (reverse-append hs (h ∷ [])) c
 
 pub popped : (old left : List Held) (h : Held) → old ≡ left ++ h ∷ [] → is_counted old → Counted h.outside (frames (stack_of left)) × is_counted left
 popped old left h e c = counted_pop left h (subst is_counted e c)
+
+-- the innermost frame is that of the last that is held
+pub innermost_none : (hs : List Held) → length hs ≡ 0 → first_frame (stack_of hs) ≡ None
+innermost_none [] e = ap first_frame stack_empty
+innermost_none (h ∷ hs) e = absurd (omega arith)
 
 -- a part's height is added to the levels of the frames
 pub up_is : (fs : List Frame) (h : ℕ) → up fs h ≡ max (up fs 0) (h + depth fs)
@@ -93,6 +99,13 @@ place_push (InStmts f w ss ps xs) fs = refl
 place_push (InFile xs) fs = refl
 place_push (InItems f w p ss ps xs) fs = refl
 
+function_push : (f : Frame) (fs : List Frame) → in_function (f ∷ fs) ≡ function_over f (in_function fs)
+function_push (InForm f w s ss ps) fs = refl
+function_push (InExpression w) fs = refl
+function_push (InStmts f w ss ps xs) fs = refl
+function_push (InFile xs) fs = refl
+function_push (InItems f w p ss ps xs) fs = refl
+
 higher_same : (f : Frame) (a b n m : ℕ) → a ≡ b → n ≡ m → higher f a n ≡ higher f b m
 higher_same f a b n m p q = ap (λ x. higher f x n) p ∙ ap (λ x. higher f b x) q
 
@@ -103,6 +116,7 @@ counts_over c d f fs k o = (
   o.1 ∙ (higher_same f c.depth (depth fs) c.least (up fs 0) k.0 k.1 ∙ sym (up_push f fs)),
   o.2 ∙ (ap (place_over f) k.2 ∙ sym (place_push f fs)),
   o.3 ∙ (ap (template_over f) k.3 ∙ sym (template_push f fs)),
+  o.4 ∙ (ap (function_over f) k.4 ∙ sym (function_push f fs)),
 )
 
 pub pushed : (hs more : List Held) (h : Held) (d : Counts) → more ≡ hs ++ h ∷ [] → Counted h.outside (frames (stack_of hs)) → is_counted hs → Over h.outside (plain_frame h.frame) d → Counted d (frames (stack_of more)) × is_counted more

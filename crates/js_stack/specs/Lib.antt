@@ -6,3 +6,7 @@ pub mod Pass
 pub mod Leave
 pub mod Goal
 pub mod Reader
+pub mod Own
+pub mod Sight
+pub mod Objects
+pub mod Groups

@@ -1,14 +1,15 @@
 -- The stack of frames, and what is kept of them together.
-use Rattle.std.specs.Prelude.{◌≡◌, ◌+◌, max, ℕ, Bool, true, false, ◌&&◌, List, [], ◌∷◌, reverse, if◌then◌else◌}
+use Rattle.std.specs.Prelude.{◌≡◌, ◌+◌, max, ℕ, Bool, true, false, ◌&&◌, ◌||◌, List, [], ◌∷◌, Option, Some, None, reverse, if◌then◌else◌}
 use Rattle.js_tree.specs.Height.{height_stmts}
 use Rattle.js_reading.specs.Slots.{Wanted, Level, WithoutIn, Slot, Expr_, By}
 use Rattle.js_reading.specs.declared.choice.Choice.TheVariants as choice
-use Rattle.js_reading.specs.Turns.{Frame, InForm, InFile, InItems, place, template_due}
+use Rattle.js_reading.specs.Turns.{Frame, InForm, InStmts, InFile, InItems, place, template_due}
 use Rattle.js_reading.specs.Open.{lift, up}
+use Rattle.js_reading.specs.Unsupported.{in_own, is_function, in_function}
 use Rattle.js_stack.specs.declared.production.Frame as code
 use Rattle.js_stack.specs.declared.stack.Counts.{Counts}
 use Rattle.js_stack.specs.declared.stack.Held.{Held}
-use Rattle.js_text.specs.Level.{any, assignment}
+use Rattle.js_reading.specs.Level.{any, assignment}
 use Rattle.js_grammar.specs.View.{plain_wanted}
 use Rattle.js_stack.specs.View.{frames}
 
@@ -54,13 +55,20 @@ abbrev pub template_over : Frame → Bool → Bool
 template_over (InForm f w (Expr_ n) ss ps) outside = template_slots ss outside
 template_over f outside = false
 
+-- whether the frames stand in a function that is no arrow
+abbrev pub function_over : Frame → Bool → Bool
+function_over (InForm f w s ss ps) outside = in_own (is_function f) ps || outside
+function_over (InStmts f w ss ps xs) outside = in_own (is_function f) ps || outside
+function_over (InItems f w p ss ps xs) outside = in_own (is_function f) ps || outside
+function_over f outside = outside
+
 -- what is kept of frames
 abbrev pub Counted : Counts → List Frame → Type 0
-Counted c fs = (c.depth ≡ depth fs) × (c.least ≡ up fs 0) × (plain_wanted c.place ≡ place fs) × (c.in_template ≡ template_due fs)
+Counted c fs = (c.depth ≡ depth fs) × (c.least ≡ up fs 0) × (plain_wanted c.place ≡ place fs) × (c.in_template ≡ template_due fs) × (c.in_function ≡ in_function fs)
 
 -- the same with one frame more, from what was kept before
 abbrev pub Over : Counts → Frame → Counts → Type 0
-Over c f d = (d.depth ≡ deeper f c.depth) × (d.least ≡ higher f c.depth c.least) × (plain_wanted d.place ≡ place_over f (plain_wanted c.place)) × (d.in_template ≡ template_over f c.in_template)
+Over c f d = (d.depth ≡ deeper f c.depth) × (d.least ≡ higher f c.depth c.least) × (plain_wanted d.place ≡ place_over f (plain_wanted c.place)) × (d.in_template ≡ template_over f c.in_template) × (d.in_function ≡ function_over f c.in_function)
 
 abbrev pub frames_of : List Held → List code.Frame
 frames_of [] = []
@@ -77,3 +85,7 @@ stack_of hs = frames_of (reverse hs)
 
 unfoldable pub is_counted : List Held → Type 0
 is_counted hs = counted (reverse hs)
+
+abbrev pub first_frame : List code.Frame → Option code.Frame
+first_frame [] = None
+first_frame (x ∷ xs) = Some x

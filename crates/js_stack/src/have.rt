@@ -24,7 +24,7 @@ use js_tree::Loc;
 use std::alloc::Global;
 
 /// The place of an expression on top of the stack.
-fn wanted(frame: &Frame) -> Wanted
+pub(crate) fn wanted(frame: &Frame) -> Wanted
     ensures { plain_wanted result ≡ turns.wanted (plain_frame frame.now) }
 {
     match frame {

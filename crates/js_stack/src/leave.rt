@@ -17,7 +17,7 @@ use crate::Refusal;
 use crate::left::Left;
 use crate::parts::Parts;
 use crate::pass::pass;
-use crate::production::{Frame, Place, Production, Turn};
+use crate::production::{Frame, Place, Production, Turn, discard_frame};
 use crate::stack::Stack;
 use crate::start::begin;
 use items::Memory;
@@ -195,7 +195,8 @@ pub(crate) fn leave(
         Frame::InItems(production, mark, items) => {
             leave_items(stack, production, mark, items, operand, last, token)
         }
-        Frame::InStatement(_) | Frame::InStatements(_, _) | Frame::InFile(_) => {
+        other => {
+            discard_frame(Some(other));
             Err(Refusal::Syntax)
         }
     }
@@ -298,7 +299,8 @@ pub(crate) fn left(
             left_statements(alloc, stack, production, statements, body, last, token)
         }
         Frame::InFile(statements) => left_file(alloc, stack, statements, body, last, token),
-        Frame::InExpression(_, _) | Frame::InLine(_) | Frame::InItems(_, _, _) => {
+        other => {
+            discard_frame(Some(other));
             Err(Refusal::Syntax)
         }
     }

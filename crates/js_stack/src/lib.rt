@@ -2,15 +2,18 @@
 #![tactic(auto)]
 
 mod goal;
+mod groups;
 mod have;
 mod leave;
 mod left;
+mod objects;
 mod parts;
 mod pass;
 mod place;
 mod production;
 mod reader;
 mod refused;
+mod sight;
 mod stack;
 mod start;
 mod take;
@@ -18,3 +21,4 @@ mod turn;
 
 pub use reader::Reader;
 pub use refused::Refusal;
+pub use sight::Sight;

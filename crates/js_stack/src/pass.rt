@@ -11,7 +11,7 @@ ghost use Rattle.js_stack.specs.View.{frames, Gives, Turns, passed, made};
 use crate::Refusal;
 use crate::parts::Parts;
 use crate::place::through;
-use crate::production::{Frame, Passed, Place, Production, Turn};
+use crate::production::{Frame, Passed, Place, Production, Turn, discard_piece};
 use crate::stack::Stack;
 use crate::start::{begin, least};
 use crate::take::take;
@@ -67,7 +67,10 @@ fn ended(
     match build(alloc, form, place, parts.into_vec())? {
         Some(Piece::Expression(operand)) => Ok(Turn::Expression(operand, place)),
         Some(Piece::Statement(body)) => Ok(Turn::Statement(body, place)),
-        _ => Err(Refusal::Syntax),
+        other => {
+            discard_piece(other);
+            Err(Refusal::Syntax)
+        }
     }
 }
 

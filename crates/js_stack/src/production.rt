@@ -1,6 +1,6 @@
 use crate::left::Left;
 use crate::parts::Parts;
-use js_build::{Body, List, Operand, Statements};
+use js_build::{Body, List, Operand, Piece, Statements};
 use js_grammar::Wanted;
 use js_reading::Form;
 use js_text::Punctuator;
@@ -68,3 +68,12 @@ pub(crate) enum Passed {
     /// A slot is passed.
     On(Production),
 }
+
+/// Lets a frame go, whole. The rest of one that a `match` has looked into would go case by case, wherever that stands.
+pub(crate) fn discard_frame(_frame: Option<Frame>) {}
+
+/// Lets a place go, whole.
+pub(crate) fn discard_place(_place: Place) {}
+
+/// Lets a piece go, whole.
+pub(crate) fn discard_piece(_piece: Option<Piece>) {}

@@ -1,18 +1,25 @@
 ghost use Rattle.std.specs.Prelude.{◌≡◌, IfOk};
 ghost use Rattle.std.specs.Option.{option_map};
 ghost use Rattle.js_lexer.specs.Token.{plain_token};
+ghost use Rattle.js_reading.specs.Found as found;
 ghost use Rattle.js_reading.specs.Open as levels;
 ghost use Rattle.js_reading.specs.Turns as turns;
 ghost use Rattle.js_stack.specs.Reader.{machine, height_of, statements_of, Takes, ended};
+ghost use Rattle.js_stack.specs.Sight as sight;
+ghost use Rattle.js_stack.specs.Sight.{Sees};
 
 use crate::Refusal;
 use crate::goal::{after_expression, due_goal};
-use crate::production::Place;
+use crate::groups::group;
+use crate::production::{Place, discard_place};
+use crate::sight::{Sight, callee, outside, seen};
 use crate::stack::{Stack, sum};
 use crate::turn::turn;
 use items::Memory;
 use js_build::Statements;
 use js_lexer::{Goal, Token};
+use js_reading::Unsupported;
+use js_tree::Loc;
 use std::alloc::Global;
 use std::marker::Model;
 use std::mem;
@@ -95,6 +102,34 @@ impl Reader {
         }
     }
 
+    /// What the place of the next token is.
+    pub fn sight(&self) -> Sight
+        ensures { Sees result (machine self.now) }
+    {
+        seen(&self.place, &self.stack)
+    }
+
+    /// A group in brackets that is whole with the token before, and what it begins with this one.
+    pub fn group(&self, token: Token<'_>) -> Option<(Unsupported, Loc)>
+        ensures { result ≡ found.group (machine self.now) (plain_token token.entry) }
+    {
+        group(&self.place, &self.stack, token)
+    }
+
+    /// The name whose arguments are whole.
+    pub fn callee(&self) -> Option<Loc>
+        ensures { result ≡ sight.callee (machine self.now) }
+    {
+        callee(&self.place)
+    }
+
+    /// Whether an expression stands there, in no function but arrows.
+    pub fn outside(&self) -> bool
+        ensures { result ≡ sight.outside (machine self.now) }
+    {
+        outside(&self.place, &self.stack)
+    }
+
     /// How high the file is, once its end is taken.
     pub fn height(&self) -> Option<u64>
         ensures { result ≡ height_of (machine self.now) }
@@ -116,7 +151,10 @@ impl Reader {
         } = self;
         match place {
             Place::Finished(statements) => Some(statements),
-            _ => None,
+            other => {
+                discard_place(other);
+                None
+            }
         }
     }
 }

@@ -1,14 +1,17 @@
 ghost use Rattle.std.specs.Prelude.{◌≡◌, ◌+◌, ◌∷◌, [], IfOk, IfSome, IfNone, OnOk};
+ghost use Rattle.std.specs.Option.{option_map};
 ghost use Rattle.js_reading.specs.Open.{up, lift};
 ghost use Rattle.js_reading.specs.Turns as turns;
+ghost use Rattle.js_reading.specs.Unsupported as unsupported;
 ghost use Rattle.js_grammar.specs.View.{plain_slot, plain_wanted};
+ghost use Rattle.js_build.specs.View.{plain_pieces};
 ghost use Rattle.js_stack.specs.Stack as spec;
 ghost use Rattle.js_stack.specs.View.{plain_frame, frames};
 
-use crate::production::Frame;
+use crate::production::{Frame, Production};
 use items::Memory;
 use js_grammar::{Slot, Wanted};
-use js_reading::Choice;
+use js_reading::{Choice, Form};
 use std::alloc::{AllocError, Global};
 use std::marker::Model;
 
@@ -23,6 +26,8 @@ pub(crate) struct Counts {
     pub(crate) place: Wanted,
     /// Whether the innermost open part is the expression of a template.
     pub(crate) in_template: bool,
+    /// Whether they stand in a function that is no arrow: in its parameters or its body.
+    pub(crate) in_function: bool,
 }
 
 /// A frame, and what is kept of those outside it.
@@ -45,6 +50,7 @@ impl Model for Stack {
     ghost use Rattle.std.specs.Coded.{codes};
     ghost use Rattle.js_stack.specs.declared.production.Frame.{Frame};
     ghost use Rattle.js_stack.specs.contracts.production.Frame as contract;
+    ghost use Rattle.js_build.specs.View.{plain_pieces};
     ghost use Rattle.js_stack.specs.Stack as spec;
     ghost use Rattle.js_stack.specs.View.{frames};
 
@@ -70,6 +76,7 @@ impl Stack {
                 least: 0,
                 place: Wanted::Level(1),
                 in_template: false,
+                in_function: false,
             },
         }
     }
@@ -100,6 +107,17 @@ impl Stack {
         Some(frame)
     }
 
+    /// The innermost frame, lent.
+    #[tactic(auto, using(crate::proofs::OnStack::stack_rules, crate::proofs::OnStack::innermost_none))]
+    pub(crate) fn innermost(&self) -> Option<&Frame>
+        ensures { option_map (λ frame. frame.now) result ≡ spec.first_frame self.now }
+    {
+        match self.held.as_slice().split_last() {
+            Some((held, _)) => Some(&held.frame),
+            None => None,
+        }
+    }
+
     /// The place of an expression on top of them.
     pub(crate) fn place(&self) -> Wanted
         ensures { plain_wanted result ≡ turns.place (frames self.now) }
@@ -112,6 +130,13 @@ impl Stack {
         ensures { result ≡ turns.template_due (frames self.now) }
     {
         self.counts.in_template
+    }
+
+    /// Whether they stand in a function that is no arrow: in its parameters or its body.
+    pub(crate) fn in_function(&self) -> bool
+        ensures { result ≡ unsupported.in_function (frames self.now) }
+    {
+        self.counts.in_function
     }
 
     /// The least height of a tree in which a part of this height stands in the innermost frame. No memory holds a tree
@@ -140,6 +165,7 @@ fn over(counts: Counts, frame: &Frame) -> Result<Counts, Memory>
         least: higher(frame, counts.depth, counts.least)?,
         place: place_over(frame, counts.place),
         in_template: template_over(frame, counts.in_template),
+        in_function: function_over(frame, counts.in_function),
     })
 }
 
@@ -242,5 +268,35 @@ fn template_next(next: Slot, is_last: bool, outside: bool) -> bool
         Slot::By(Choice::Arguments) => is_last && outside,
         Slot::By(Choice::TemplateRest) => true,
         _ => false,
+    }
+}
+
+/// Whether a production is a function that is no arrow.
+fn is_function(form: Form) -> bool
+    ensures { result ≡ unsupported.is_function form }
+{
+    match form {
+        Form::FunctionExpression | Form::FunctionDeclaration => true,
+        _ => false,
+    }
+}
+
+/// Whether the missing part of a production is a function's own.
+fn owns(production: &Production) -> bool
+    ensures { result ≡ unsupported.in_own (unsupported.is_function production.now.form) (plain_pieces production.now.parts) }
+{
+    production.parts.own(is_function(production.form))
+}
+
+/// Whether the frames stand in a function that is no arrow with this one.
+fn function_over(frame: &Frame, outside: bool) -> bool
+    ensures { result ≡ spec.function_over (plain_frame frame.now) outside }
+{
+    match frame {
+        Frame::InExpression(production, _)
+        | Frame::InStatement(production)
+        | Frame::InStatements(production, _)
+        | Frame::InItems(production, _, _) => owns(production) || outside,
+        Frame::InLine(_) | Frame::InFile(_) => outside,
     }
 }

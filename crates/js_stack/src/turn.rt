@@ -7,7 +7,7 @@ use crate::have::settle;
 use crate::leave::{finished, is_end};
 use crate::parts::Parts;
 use crate::pass::pass;
-use crate::production::{Frame, Place, Turn};
+use crate::production::{Frame, Place, Turn, discard_frame};
 use crate::stack::Stack;
 use crate::start::{begin, want};
 use js_build::{Piece, Statements};
@@ -30,7 +30,10 @@ fn item(alloc: Global, stack: &mut Stack, token: Token<'_>) -> Result<Place, Ref
                 want(alloc, stack, Frame::InItems(production, mark, items), token)
             }
         }
-        _ => Err(Refusal::Syntax),
+        other => {
+            discard_frame(other);
+            Err(Refusal::Syntax)
+        }
     }
 }
 

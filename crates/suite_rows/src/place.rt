@@ -25,6 +25,7 @@ pub(crate) fn read(alloc: Global, bytes: Vec<u8>) -> Result<Result<File, String>
 fn why_of(why: Refusal) -> &'static str {
     match why {
         Refusal::Syntax => "syntax",
+        Refusal::Unsupported(_) => "unsupported",
         Refusal::TooDeep => "too deep",
         Refusal::Memory => "memory",
     }

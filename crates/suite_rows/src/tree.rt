@@ -132,9 +132,16 @@ fn print_leaf(kind: &str, text: &str, out: &mut String) -> Result<(), Memory> {
 
 fn sign(operator: BinaryOperator) -> &'static str {
     match operator {
+        BinaryOperator::Exponentiate => "**",
+        BinaryOperator::Multiply => "*",
+        BinaryOperator::Divide => "/",
+        BinaryOperator::Remainder => "%",
         BinaryOperator::Add => "+",
         BinaryOperator::Subtract => "-",
         BinaryOperator::LessThan => "<",
+        BinaryOperator::GreaterThan => ">",
+        BinaryOperator::Equal => "==",
+        BinaryOperator::StrictEqual => "===",
         _ => "?",
     }
 }

@@ -1,9 +1,15 @@
+use Rattle.js_reading.proofs.Apart.{text_apart}
+use Rattle.js_reading.proofs.Finds.{found_begins, ahead_begins}
 use Rattle.js_reading.proofs.Floors.{low}
+use Rattle.js_reading.proofs.Found.{clean, clean_more, clean_text}
 use Rattle.js_reading.proofs.Goals.{asks}
+use Rattle.js_reading.proofs.LeftOut.{leaves_out, leaves_out_ahead, supports_ended, supports_refused, one_place}
 use Rattle.js_reading.proofs.Opening.{begins_more}
 use Rattle.js_reading.proofs.Reading.{complete}
 use Rattle.js_reading.proofs.Refusing.{this_begins, stops_run, begins_dead}
 use Rattle.js_reading.proofs.Sound.{reads_only}
+use Rattle.js_reading.proofs.PlacedTexts.{reads_placed}
+use Rattle.js_reading.proofs.Taken.{read_finds}
 use Rattle.js_reading.proofs.Texts.{text_tree}
 use Rattle.js_reading.proofs.Unique.{one_tree, dead}
 use Rattle.js_reading.proofs.language.Goals as goal
@@ -38,5 +44,44 @@ returns-clause-told c = stops_run
 pub returns-clause-finds_this : goal.returns-clause-finds_this
 returns-clause-finds_this c = this_begins
 
+pub returns-clause-stands_apart : goal.returns-clause-stands_apart
+returns-clause-stands_apart c = text_apart
+
+pub returns-clause-finds_few : goal.returns-clause-finds_few
+returns-clause-finds_few c = λ ts turns d e t s h. read_finds t s h
+
+pub returns-clause-finds_all : goal.returns-clause-finds_all
+returns-clause-finds_all c = λ ts turns d s. clean s
+
+pub returns-clause-finds_ended : goal.returns-clause-finds_ended
+returns-clause-finds_ended c = λ ts turns d t s h. clean_more t s h
+
+pub returns-clause-finds_refused : goal.returns-clause-finds_refused
+returns-clause-finds_refused c = λ ts turns d r us s refused h k. clean_text r us s refused h k
+
+pub returns-clause-finds_begun : goal.returns-clause-finds_begun
+returns-clause-finds_begun c = λ ts turns d t us x s apart h. found_begins t us x s apart h
+
+pub returns-clause-finds_ahead : goal.returns-clause-finds_ahead
+returns-clause-finds_ahead c = λ ts turns d r us x s h. ahead_begins r us x s h
+
+pub returns-clause-leaves_out : goal.returns-clause-leaves_out
+returns-clause-leaves_out c = leaves_out
+
+pub returns-clause-leaves_out_ahead : goal.returns-clause-leaves_out_ahead
+returns-clause-leaves_out_ahead c = leaves_out_ahead
+
+pub returns-clause-supports_ended : goal.returns-clause-supports_ended
+returns-clause-supports_ended c = supports_ended
+
+pub returns-clause-supports_refused : goal.returns-clause-supports_refused
+returns-clause-supports_refused c = supports_refused
+
+pub returns-clause-places_apart : goal.returns-clause-places_apart
+returns-clause-places_apart c = one_place
+
 pub returns-clause-text : goal.returns-clause-text
 returns-clause-text c = text_tree
+
+pub returns-clause-lines : goal.returns-clause-lines
+returns-clause-lines c = reads_placed

@@ -35,6 +35,9 @@ returns-clause-one_line g c = λ memory. let said = c.complain-in-Err.ensures.on
 end_said : (g : Over) (c : goal.Joined-end g) → IsSaid (Some (OnSource c.args.task c.args.path.now)) (g.S.Store.held c.args.store.now) (message_of c.in-Some.complaint)
 end_said g c = end_is_said _ _ _ c.in-Ok.end c.in-Ok.ensures.answered c.said_of.ensures c.in-Some.is
 
+pub returns-in-Some-clause-due : goal.returns-in-Some-clause-due
+returns-in-Some-clause-due g c = (complained _ _ (end_said g c) c.complain.ensures.status).due
+
 pub returns-in-Some-clause-comes : goal.returns-in-Some-clause-comes
 returns-in-Some-clause-comes g c = (complained _ _ (end_said g c) c.complain.ensures.status).comes
 

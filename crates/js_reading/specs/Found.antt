@@ -1,0 +1,236 @@
+-- What a reader that takes a token a turn finds of the forms that are left out: a form whose last token is this one, from the place
+-- before it and the two turns before, and its first token's location. It looks no further than the top of the stack, and the pieces there.
+use Rattle.std.specs.Prelude.{◌≡◌, ℕ, ◌==◌, Bool, true, false, not, ◌&&◌, ◌||◌, List, [], ◌∷◌, ◌++◌, Option, Some, None, codes, if◌then◌else◌}
+use Rattle.js_tree.specs.declared.place.Loc.{Loc}
+use Rattle.js_tree.specs.Plain.{Expr}
+use Rattle.js_tree.specs.Plain as tree
+use Rattle.js_reading.specs.Spans.{through}
+use Rattle.js_text.specs.Token.{Token, End}
+use Rattle.js_text.specs.declared.punctuator.Punctuator.TheVariants as P
+use Rattle.js_reading.specs.Kinds.{is_kind}
+use Rattle.js_reading.specs.Slots.{BoundName, Key, Slot, By, Piece, AnExpr, TheExprs, Missing}
+use Rattle.js_reading.specs.Slots as slot
+use Rattle.js_reading.specs.Productions.{is_mark, is_word, is_class, is_proto_word, join}
+use Rattle.js_reading.specs.Makes.{build}
+use Rattle.js_reading.specs.Sentences.{fits, continues}
+use Rattle.js_reading.specs.Turns.{Config, Due, Have, Start, Frame, wanted, turn, run}
+use Rattle.js_reading.specs.Unsupported.{Unsupported, ClassForm, Super, Import, Export, NewTarget, Spread, OptionalChain, LogicalAssignment, Async, Generator, Accessor, BigIntLiteral, ThisOutside, Elision, Proto, TaggedTemplate, ParenthesizedTarget, BindingPattern, Begins, at_property, at_any_name, at_bound_name, at_item, after_tight, in_function, is_template, is_bigint, assigns, is_each, is_head, is_update, is_parenthesized_target, is_literal_pattern}
+
+-- a form, and where its first token stands
+abbrev pub Find : Type 0
+Find = Option (Unsupported × Loc)
+
+abbrev pub when : Bool → Unsupported → Loc → Find
+when b u l = if b then Some (u, l) else None
+
+abbrev pub or_else : Find → Find → Find
+or_else None found = found
+or_else (Some x) found = Some x
+
+abbrev pub first_of : List Find → Find
+first_of [] = None
+first_of (x ∷ xs) = or_else x (first_of xs)
+
+-- ---- one, two and three tokens, from the place before the first
+
+-- a word that is no key and no member's name
+abbrev pub is_free : Config → Token → List ℕ → Bool
+is_free c t w = is_word w t && not (at_any_name c)
+
+abbrev pub is_logical : Token → Bool
+is_logical t = is_mark P.LogicalAndAssign t || is_mark P.LogicalOrAssign t || is_mark P.CoalesceAssign t
+
+abbrev pub is_key : Token → Bool
+is_key t = is_class Key t || is_mark P.OpenBracket t
+
+abbrev pub opens_pattern : Token → Bool
+opens_pattern t = is_mark P.OpenBracket t || is_mark P.OpenBrace t
+
+abbrev pub ones : Config → Token → List Find
+ones c t =
+    when (is_free c t (codes "class")) ClassForm t.loc ∷
+    when (is_free c t (codes "super")) Super t.loc ∷
+    when (is_free c t (codes "import")) Import t.loc ∷
+    when (is_free c t (codes "export")) Export t.loc ∷
+    when (is_mark P.Ellipsis t) Spread t.loc ∷
+    when (is_mark P.OptionalChain t) OptionalChain t.loc ∷
+    when (is_logical t) LogicalAssignment t.loc ∷
+    when (is_mark P.Star t && at_property c) Generator t.loc ∷
+    when (is_bigint t.kind) BigIntLiteral t.loc ∷
+    when (is_mark P.Comma t && at_item c) Elision t.loc ∷
+    when (is_template t.kind && after_tight c) TaggedTemplate t.loc ∷
+    when (opens_pattern t && at_bound_name c) BindingPattern t.loc ∷
+    []
+
+abbrev pub one : Config → Token → Find
+one c t = first_of (ones c t)
+
+-- a property of an object starts
+abbrev pub at_object : Config → Bool
+at_object (Due slot.ObjectLiteral w (By slot.Properties ∷ ss) ps l fs) = true
+at_object c = false
+
+abbrev pub twos : Config → Token → Token → List Find
+twos c t next =
+    when (is_free c t (codes "new") && is_mark P.Dot next) NewTarget t.loc ∷
+    when (is_free c t (codes "async") && (is_word (codes "function") next && not next.line_terminator_before)) Async t.loc ∷
+    when (is_word (codes "async") t && (at_property c && (is_key next && not next.line_terminator_before))) Async t.loc ∷
+    when (is_free c t (codes "function") && is_mark P.Star next) Generator t.loc ∷
+    when ((is_word (codes "get") t || is_word (codes "set") t) && (at_property c && is_key next)) Accessor t.loc ∷
+    when (is_class BoundName t && (at_property c && is_mark P.Assign next)) BindingPattern t.loc ∷
+    []
+
+abbrev pub two : Config → Token → Token → Find
+two c t next = first_of (twos c t next)
+
+-- the machine goes on after this one
+abbrev pub proto_key : Config → Token → Token → Find
+proto_key c t next = when (is_proto_word t.kind && (at_object c && is_mark P.Colon next)) Proto t.loc
+
+abbrev pub three : Config → Token → Token → Token → Find
+three c t name arrow = when (is_free c t (codes "async") && (is_class BoundName name && (not name.line_terminator_before && is_mark P.Arrow arrow))) Async t.loc
+
+-- ---- a group in brackets and the token after it: the group is whole, and what it makes stands in the frames below
+
+-- the whole left side of an assignment or an update, the target of a `for`, or the operand of an update
+abbrev pub left_sides : ℕ → Expr → Loc → Frame → Token → List Find
+left_sides i e w f t =
+    when (is_parenthesized_target e && (fits (wanted f) i e && (assigns (join t) && continues (wanted f) e t))) ParenthesizedTarget w ∷
+    when (is_parenthesized_target e && (fits (wanted f) i e && (is_head f && is_each t))) ParenthesizedTarget w ∷
+    when (is_parenthesized_target e && (fits (wanted f) i e && (is_update f && not (continues (wanted f) e t)))) ParenthesizedTarget w ∷
+    when (is_literal_pattern e && (fits (wanted f) i e && (is_mark P.Assign t && continues (wanted f) e t))) BindingPattern w ∷
+    when (is_literal_pattern e && (fits (wanted f) i e && (is_head f && is_each t))) BindingPattern w ∷
+    []
+
+abbrev pub left_side : Option Piece → Loc → List Frame → Token → Find
+left_side (Some (AnExpr i e)) w (f ∷ fs) t = first_of (left_sides i e w f t)
+left_side p w fs t = None
+
+-- no arrow's body follows
+abbrev pub on_its_line : Token → Bool
+on_its_line t = is_mark P.Arrow t && not t.line_terminator_before
+
+-- what is built here is what the turn builds with this token
+abbrev pub group : Config → Token → Find
+group (Due slot.Parentheses w (By slot.Arrow ∷ []) ps l fs) t = if on_its_line t then None else left_side (build slot.Parentheses (through w l) (ps ++ Missing ∷ [])) w fs t
+group (Due slot.ArrayLiteral w [] ps l fs) t = left_side (build slot.ArrayLiteral (through w l) ps) w fs t
+group (Due slot.ObjectLiteral w [] ps l fs) t = left_side (build slot.ObjectLiteral (through w l) ps) w fs t
+group c t = None
+
+-- the same from the place after, where the token is read: the group is the first part there
+abbrev pub whole_group : Config → Token → Option (Loc × Frame)
+whole_group (Due slot.Parentheses w (By slot.Arrow ∷ []) ps l (f ∷ fs)) t = if on_its_line t then None else Some (w, f)
+whole_group (Due slot.ArrayLiteral w [] ps l (f ∷ fs)) t = Some (w, f)
+whole_group (Due slot.ObjectLiteral w [] ps l (f ∷ fs)) t = Some (w, f)
+whole_group c t = None
+
+abbrev pub first_part : Config → Option (ℕ × Expr)
+first_part (Due f w ss (AnExpr i e ∷ ps) l fs) = Some (i, e)
+first_part d = None
+
+abbrev pub shown_by : Option (Loc × Frame) → Option (ℕ × Expr) → Token → Find
+shown_by (Some g) (Some p) t = first_of (left_sides p.0 p.1 g.0 g.1 t)
+shown_by g p t = None
+
+abbrev pub shown : Config → Config → Token → Find
+shown c d t = shown_by (whole_group c t) (first_part d) t
+
+-- ---- `this`, from the place after it
+
+abbrev pub outside : Option Config → Token → Find
+outside (Some (Have p l fs)) t = when (is_word (codes "this") t && not (in_function fs)) ThisOutside t.loc
+outside d t = None
+
+-- ---- a turn: the turns before it, the last first, each with the place before it
+
+abbrev pub Turns : Type 0
+Turns = List (Config × Token)
+
+abbrev pub two_back : Turns → Token → Find
+two_back (x ∷ turns) t = two x.0 x.1 t
+two_back turns t = None
+
+abbrev pub proto_back : Turns → Token → Find
+proto_back (x ∷ turns) t = proto_key x.0 x.1 t
+proto_back turns t = None
+
+abbrev pub three_back : Turns → Token → Find
+three_back (x ∷ y ∷ turns) t = three y.0 y.1 x.1 t
+three_back turns t = None
+
+-- the `async` words whose next token was `(` on their line; a reader keeps those whose `)` is still to come
+abbrev pub opens_call : Token → Token → Bool
+opens_call t opening = is_word (codes "async") t && (is_mark P.OpenParenthesis opening && not opening.line_terminator_before)
+
+abbrev pub asyncs : Turns → List Loc
+asyncs (x ∷ y ∷ turns) = if opens_call y.1 x.1 then y.1.loc ∷ asyncs (y ∷ turns) else asyncs (y ∷ turns)
+asyncs turns = []
+
+abbrev pub same_start : Loc → Loc → Bool
+same_start l m = l.start.line == m.start.line && l.start.column == m.start.column
+
+abbrev pub starts : Loc → List Loc → Bool
+starts l [] = false
+starts l (m ∷ ms) = same_start l m || starts l ms
+
+-- the arguments of a name are whole
+abbrev pub named_callee : List Piece → Option Loc
+named_callee (AnExpr i (tree.IdentifierReference l w) ∷ TheExprs b xs ∷ []) = l
+named_callee ps = None
+
+abbrev pub arrow_after : Turns → Option Loc → Token → Find
+arrow_after turns None t = None
+arrow_after turns (Some l) t = when (is_mark P.Arrow t && starts l (asyncs turns)) Async l
+
+abbrev pub called : Turns → Config → Token → Find
+called turns (Due slot.Call w [] ps l fs) t = arrow_after turns (named_callee ps) t
+called turns (Due slot.New w [] ps l fs) t = arrow_after turns (named_callee ps) t
+called turns c t = None
+
+abbrev pub finds : Turns → Config → Token → List Find
+finds turns c t = one c t ∷ two_back turns t ∷ three_back turns t ∷ group c t ∷ outside (turn c t) t ∷ called turns c t ∷ proto_back turns t ∷ []
+
+abbrev pub found : Turns → Config → Token → Find
+found turns c t = first_of (finds turns c t)
+
+-- where the token is refused: those that go on beyond it
+abbrev pub three_ahead : Config → Token → Token → List Token → Find
+three_ahead c t next [] = None
+three_ahead c t next (last ∷ ts) = three c t next last
+
+abbrev pub three_over : Turns → Token → Token → Find
+three_over [] t next = None
+three_over (x ∷ turns) t next = three x.0 x.1 t next
+
+abbrev pub aheads : Turns → Config → Token → Token → List Token → List Find
+aheads turns c t next ts = two c t next ∷ three_ahead c t next ts ∷ three_over turns t next ∷ proto_key c t next ∷ []
+
+abbrev pub ahead : Turns → Config → Token → List Token → Find
+ahead turns c t [] = None
+ahead turns c t (next ∷ ts) = first_of (aheads turns c t next ts)
+
+-- ---- what it says
+
+-- these tokens lead to this place by these turns, and nothing is found at any
+pub data Searched : List Token → Turns → Config → Type 0 where
+  not_begun : Searched [] [] Start
+  searched : {ts : List Token} {turns : Turns} {c d : Config} (t : Token) → Searched ts turns c → found turns c t ≡ None → turn c t ≡ Some d → Searched (ts ++ t ∷ []) ((c, t) ∷ turns) d
+
+-- no token of these begins a form whose tokens are all among them
+abbrev pub Clean : List Token → Type 0
+Clean ts = (u : Unsupported) (before us : List Token) (c : Config) → ts ≡ before ++ us → run Start before ≡ Some c → Begins u c us → ⊥
+
+-- no two of these tokens start at one place, but ends of the text
+abbrev pub Apart : List Token → Type 0
+Apart ts = (before between after : List Token) (t u : Token) → ts ≡ before ++ t ∷ (between ++ u ∷ after) → is_kind End t.kind ≡ false → same_start t.loc u.loc ≡ false
+
+-- a token of these, at this location, begins this form
+pub record BegunAt (ts : List Token) (what : Unsupported × Loc) : Type 0 where
+  pub before : List Token
+  pub first : Token
+  pub others : List Token
+  pub place : Config
+  pub split : ts ≡ before ++ first ∷ others
+  pub ran : run Start before ≡ Some place
+  pub begins : Begins what.0 place (first ∷ others)
+  pub there : first.loc ≡ what.1
