@@ -1,16 +1,17 @@
 -- Parameters and bodies of arrow functions.
-use Rattle.std.proofs.Common.{◌≡◌, ℕ, ◌+◌, max, Bool, List, [], ◌∷◌, Option, Some, None, refl, ap, sym, ◌∙◌, arith}
+use Rattle.std.proofs.Common.{◌≡◌, ℕ, max, List, [], ◌∷◌, Option, Some, None, refl, ap, arith}
 use Rattle.js_tree.specs.declared.operators.AssignmentOperator.TheVariants as assign
 use Rattle.js_tree.specs.declared.place.Loc.{Loc}
 use Rattle.js_tree.specs.Plain.{Expr, Exprs, no_expr, more_expr, Param, Params, no_param, more_param, push_params}
 use Rattle.js_tree.specs.Plain as tree
 use Rattle.js_tree.specs.Height.{height_expr, height_exprs, height_param, height_params}
 use Rattle.js_reading.specs.Spans.{through}
-use Rattle.js_reading.specs.Slots.{Piece, APlace, TheStmts}
+use Rattle.js_reading.specs.Slots.{Piece, AnExpr, APlace, TheStmts}
 use Rattle.js_reading.specs.Makes.{arrow_of, bare_in, concise, last_level, one_more_param, param_of, params_of, with_directives}
 use Rattle.js_build.specs.Arrows.{default_of}
 use Rattle.js_build.specs.Callables.{braces_of}
 use Rattle.js_build.specs.Concise.{bare_of, last_of}
+use Rattle.js_build.specs.Shapes.{if_over, none_left}
 
 -- an assignment by `=` is a name with a default
 pub assigned_default : (l : Option Loc) (e v : Expr) → param_of (tree.Assignment l assign.Assign e v) ≡ default_of l e v
@@ -93,8 +94,7 @@ arrow_without l (Some ps) = refl
 -- a body in braces, after the place of the `{`
 abbrev pub block_alone : Loc → Option ((tree.Stmts × Loc) × List Piece) → Option tree.ConciseBody
 block_alone l None = None
-block_alone l (Some ((ss, m), [])) = Some (tree.BlockBody (tree.MakeFunctionBody (Some (through l m)) (with_directives ss)))
-block_alone l (Some ((ss, m), p ∷ ps)) = None
+block_alone l (Some ((ss, m), ps)) = if_over (none_left ps) (tree.BlockBody (tree.MakeFunctionBody (Some (through l m)) (with_directives ss)))
 
 pub concise_place : (l : Loc) (ps : List Piece) → concise (APlace l ∷ ps) ≡ block_alone l (braces_of ps)
 concise_place l [] = refl
@@ -103,3 +103,8 @@ concise_place l (TheStmts ss ∷ APlace m ∷ []) = refl
 concise_place l (TheStmts ss ∷ APlace m ∷ p ∷ ps) = refl
 concise_place l (TheStmts ss ∷ p ∷ ps) = refl
 concise_place l (p ∷ ps) = refl
+
+-- a body that is an expression
+pub concise_expression : (i : ℕ) (e : Expr) (ps : List Piece) → concise (AnExpr i e ∷ ps) ≡ if_over (none_left ps) (tree.ExpressionBody e)
+concise_expression i e [] = refl
+concise_expression i e (p ∷ ps) = refl

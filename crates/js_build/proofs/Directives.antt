@@ -1,12 +1,11 @@
 -- Statements whose first strings are directives, read one by one.
-use Rattle.std.proofs.Common.{◌≡◌, ℕ, Bool, true, false, Option, Some, None, refl, ap, sym, ◌∙◌}
+use Rattle.std.proofs.Common.{◌≡◌, Bool, true, false, Option, refl, ap}
 use Rattle.js_tree.specs.declared.place.Loc.{Loc}
 use Rattle.js_tree.specs.Plain.{Expr, Stmt, Stmts, no_stmt, more_stmt, push_stmts}
 use Rattle.js_tree.specs.Plain as tree
-use Rattle.js_tree.specs.Height.{height_stmts}
 use Rattle.js_reading.specs.Makes.{with_directives}
 use Rattle.js_reading.proofs.Heights.{directives_same}
-use Rattle.js_build.specs.Prologue.{directive_of, is_string, is_string_statement}
+use Rattle.js_build.specs.Prologue.{directed_of, directive_of, is_string, is_string_statement}
 
 pub no_directive : (l : Option Loc) (e : Expr) → is_string e ≡ false → directive_of (tree.Expression l e) ≡ tree.Expression l e
 no_directive l (tree.StringLiteral m s) h = cc
@@ -30,12 +29,8 @@ abbrev pub rest : Bool → Stmts → Stmts
 rest true ss = with_directives ss
 rest false ss = ss
 
-pub rest_string : (s : Stmt) (ss : Stmts) → is_string_statement s ≡ true → rest true (more_stmt s ss) ≡ more_stmt (directive_of s) (rest true ss)
-rest_string (tree.Expression l (tree.StringLiteral m s)) ss h = refl
-rest_string s ss h = cc
+pub rest_next : (s : Stmt) (ss : Stmts) → rest true (more_stmt s ss) ≡ more_stmt (directed_of (is_string_statement s) s) (rest (is_string_statement s) ss)
+rest_next (tree.Expression l (tree.StringLiteral m s)) ss = refl
+rest_next s ss = refl
 
-pub rest_other : (s : Stmt) (ss : Stmts) → is_string_statement s ≡ false → rest true (more_stmt s ss) ≡ more_stmt s (rest false ss)
-rest_other (tree.Expression l (tree.StringLiteral m s)) ss h = cc
-rest_other s ss h = refl
-
-pub ruleset prologue_rules = (joined_push, joined_end, rest_string, rest_other, directives_same)
+pub ruleset prologue_rules = (joined_push, joined_end, rest_next, directives_same)

@@ -1,5 +1,5 @@
 -- What `build` makes of the pieces of a production, by their shape.
-use Rattle.std.proofs.Common.{◌≡◌, ℕ, Bool, true, false, List, [], ◌∷◌, Option, Some, None, if◌then◌else◌, refl}
+use Rattle.std.proofs.Common.{◌≡◌, ℕ, List, [], ◌∷◌, Option, Some, None, if◌then◌else◌, refl}
 use Rattle.js_tree.specs.declared.operators.AssignmentOperator.{AssignmentOperator}
 use Rattle.js_tree.specs.declared.operators.BinaryOperator.{BinaryOperator}
 use Rattle.js_tree.specs.declared.operators.LogicalOperator.{LogicalOperator}
@@ -10,11 +10,11 @@ use Rattle.js_tree.specs.declared.place.Loc.{Loc}
 use Rattle.js_tree.specs.Plain.{Expr, Stmt}
 use Rattle.js_tree.specs.Plain as tree
 use Rattle.js_reading.specs.Level.{binary_level, logical_level}
-use Rattle.js_reading.specs.Slots.{Piece, AnExpr, AStmt}
+use Rattle.js_reading.specs.Slots.{Piece, AnExpr}
 use Rattle.js_reading.specs.declared.form.Form.TheVariants as form
 use Rattle.js_reading.specs.Makes.{build, is_target}
 use Rattle.js_build.specs.Mixed.{is_mixed}
-use Rattle.js_build.specs.Shapes.{one_expr, two_exprs, three_exprs, expr_stmt}
+use Rattle.js_build.specs.Shapes.{one_expr, two_exprs, three_exprs}
 
 abbrev pub of_one : Option (ℕ × Expr) → (Expr → Option Piece) → Option Piece
 of_one None make = None

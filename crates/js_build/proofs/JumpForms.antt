@@ -8,6 +8,7 @@ use Rattle.js_reading.specs.Slots.{Piece, AStmt, AWord, Missing}
 use Rattle.js_reading.specs.declared.form.Form.TheVariants as form
 use Rattle.js_reading.specs.Makes.{build}
 use Rattle.js_build.specs.Labels.{label_of}
+use Rattle.js_build.specs.Shapes.{if_over, none_left}
 
 abbrev pub of_label : Option (Option Identifier) → (Option Identifier → Stmt) → Option Piece
 of_label None make = None
@@ -28,3 +29,11 @@ break_form l (Missing ∷ p ∷ ps) = refl
 break_form l (AWord w m ∷ []) = refl
 break_form l (AWord w m ∷ p ∷ ps) = refl
 break_form l (p ∷ ps) = refl
+
+pub empty_form : (l : Loc) (ps : List Piece) → build form.Empty l ps ≡ if_over (none_left ps) (AStmt (tree.Empty (Some l)))
+empty_form l [] = refl
+empty_form l (p ∷ ps) = refl
+
+pub debugger_form : (l : Loc) (ps : List Piece) → build form.Debugger l ps ≡ if_over (none_left ps) (AStmt (tree.Debugger (Some l)))
+debugger_form l [] = refl
+debugger_form l (p ∷ ps) = refl

@@ -1,13 +1,14 @@
 -- Lists that are read from the front, one by one.
 use Rattle.std.proofs.Common.{◌≡◌, ℕ, max, Bool, true, false, List, [], ◌∷◌, Option, Some, None, refl, ap, arith}
 use Rattle.js_tree.specs.declared.place.Loc.{Loc}
-use Rattle.js_tree.specs.Plain.{Expr, MaybeExpr, some_expr, Stmts, TemplatePart, TemplateParts, no_template_part, more_template_part, push_template_parts, Case, Cases, no_case, more_case, push_cases}
+use Rattle.js_tree.specs.Plain.{Expr, MaybeExpr, none_expr, some_expr, Stmts, TemplatePart, TemplateParts, no_template_part, more_template_part, push_template_parts, Case, Cases, no_case, more_case, push_cases}
 use Rattle.js_tree.specs.Height.{height_case, height_cases, height_template_part, height_template_parts}
 use Rattle.js_reading.specs.Slots.{Piece, AnExpr, TheStmts, APlace}
 use Rattle.js_reading.specs.declared.form.Form.TheVariants as form
 use Rattle.js_reading.specs.Makes.{build, cases_of, one_more_case, one_more_part, switch_of}
 use Rattle.js_build.specs.Callables.{braces_of}
 use Rattle.js_build.specs.Lists.{case_read, clause_of, place_of}
+use Rattle.js_build.specs.Objects.{first_place}
 use Rattle.js_build.specs.Shapes.{first_expr}
 
 -- ---- parts of a template
@@ -67,6 +68,18 @@ clause_tested i e (TheStmts ss ∷ []) = refl
 clause_tested i e (TheStmts ss ∷ APlace m ∷ ps) = refl
 clause_tested i e (TheStmts ss ∷ p ∷ ps) = refl
 clause_tested i e (p ∷ ps) = refl
+
+-- a clause without one
+abbrev pub untested : Stmts → Option (Loc × List Piece) → Option ((MaybeExpr × (Stmts × Loc)) × List Piece)
+untested ss None = None
+untested ss (Some x) = Some ((none_expr, (ss, x.0)), x.1)
+
+pub clause_untested : (ss : Stmts) (ps : List Piece) → clause_of (TheStmts ss ∷ ps) ≡ untested ss (first_place ps)
+clause_untested ss [] = refl
+clause_untested ss (APlace m ∷ ps) = refl
+clause_untested ss (p ∷ ps) = refl
+
+pub ruleset clause_rules = (clause_tested, clause_untested)
 
 -- with a clause before the others
 abbrev pub more_cases : Option ((Case × Bool) × List Piece) → Option Cases

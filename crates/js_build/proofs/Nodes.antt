@@ -1,5 +1,5 @@
 -- What the plain trees of nodes are that are made here, and what is known of their operands.
-use Rattle.std.proofs.Common.{◌≡◌, ℕ, ◌+◌, max, Bool, true, false, ◌||◌, List, Option, Some, None, refl, ap, ◌∙◌}
+use Rattle.std.proofs.Common.{◌≡◌, Option, Some, None, refl, ap, ◌∙◌}
 use Rattle.js_tree.specs.declared.operators.BinaryOperator.{BinaryOperator}
 use Rattle.js_tree.specs.declared.operators.BinaryOperator.TheVariants as b
 use Rattle.js_tree.specs.Plain.{Expr}

@@ -2,18 +2,27 @@
 use Rattle.std.proofs.Common.{◌≡◌, ℕ, List, [], ◌∷◌, Option, Some, None, refl}
 use Rattle.js_tree.specs.Plain.{Expr, Stmt}
 use Rattle.js_reading.specs.Slots.{Piece, AnExpr, AStmt}
-use Rattle.js_build.specs.Shapes.{expr_stmt, first_expr, one_expr, one_stmt, three_exprs, two_exprs}
+use Rattle.js_build.specs.Shapes.{expr_stmt, first_expr, first_stmt, if_over, none_left, one_expr, one_stmt, three_exprs, two_exprs}
 
 abbrev pub alone : Option ((ℕ × Expr) × List Piece) → Option (ℕ × Expr)
 alone None = None
-alone (Some (x, [])) = Some x
-alone (Some (x, p ∷ ps)) = None
+alone (Some (x, ps)) = if_over (none_left ps) x
 
 pub one_first : (ps : List Piece) → one_expr ps ≡ alone (first_expr ps)
 one_first [] = refl
 one_first (AnExpr i x ∷ []) = refl
 one_first (AnExpr i x ∷ p ∷ ps) = refl
 one_first (p ∷ ps) = refl
+
+abbrev pub stmt_alone : Option (Stmt × List Piece) → Option Stmt
+stmt_alone None = None
+stmt_alone (Some (s, ps)) = if_over (none_left ps) s
+
+pub one_stmt_first : (ps : List Piece) → one_stmt ps ≡ stmt_alone (first_stmt ps)
+one_stmt_first [] = refl
+one_stmt_first (AStmt s ∷ []) = refl
+one_stmt_first (AStmt s ∷ p ∷ ps) = refl
+one_stmt_first (p ∷ ps) = refl
 
 abbrev pub paired : ℕ × Expr → Option (ℕ × Expr) → Option ((ℕ × Expr) × (ℕ × Expr))
 paired x None = None

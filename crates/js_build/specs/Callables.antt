@@ -1,5 +1,5 @@
 -- The pieces of parameters and bodies, read from the front.
-use Rattle.std.specs.Prelude.{ℕ, List, [], ◌∷◌, Option, Some, None}
+use Rattle.std.specs.Prelude.{ℕ, List, ◌∷◌, Option, Some, None}
 use Rattle.js_tree.specs.declared.place.Loc.{Loc}
 use Rattle.js_tree.specs.Plain.{Expr}
 use Rattle.js_tree.specs.Plain as tree

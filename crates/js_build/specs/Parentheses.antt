@@ -1,5 +1,5 @@
 -- What stands in parentheses and after them.
-use Rattle.std.specs.Prelude.{Bool, true, false, List, [], ◌∷◌, Option, Some, None}
+use Rattle.std.specs.Prelude.{Bool, true, false, List, ◌∷◌, Option, Some, None}
 use Rattle.js_tree.specs.declared.place.Loc.{Loc}
 use Rattle.js_tree.specs.Plain.{Expr, Exprs, no_expr, more_expr}
 use Rattle.js_tree.specs.Plain as tree
@@ -7,6 +7,7 @@ use Rattle.js_tree.specs.Tree.{plain_exprs}
 use Rattle.js_reading.specs.Spans.{through}
 use Rattle.js_reading.specs.Slots.{Piece, AnExpr, APlace, Missing, TheExprs}
 use Rattle.js_reading.specs.Makes.{arrow_of, comma_of, concise, loc_of, params_of}
+use Rattle.js_build.specs.Shapes.{if_over, none_left}
 use Rattle.js_build.specs.declared.operand.List as code
 
 abbrev pub both : Option Loc → Option Loc → Option Loc
@@ -26,8 +27,7 @@ joined e (more_expr x xs) = joined (pair e x) xs
 abbrev pub parenthesized : Loc → Bool → Exprs → List Piece → Option Piece
 parenthesized l true xs ps = None
 parenthesized l false no_expr ps = None
-parenthesized l false (more_expr e es) [] = Some (AnExpr 21 (tree.Parenthesized (Some l) (comma_of loc_of e es)))
-parenthesized l false (more_expr e es) (p ∷ ps) = None
+parenthesized l false (more_expr e es) ps = if_over (none_left ps) (AnExpr 21 (tree.Parenthesized (Some l) (comma_of loc_of e es)))
 
 -- with what stands after the items in parentheses
 abbrev pub after_list : Loc → Bool → Exprs → List Piece → Option Piece

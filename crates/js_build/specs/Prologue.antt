@@ -14,3 +14,7 @@ is_string_statement s = false
 abbrev pub directive_of : Stmt → Stmt
 directive_of (tree.Expression l (tree.StringLiteral m s)) = tree.Directive l s
 directive_of s = s
+
+abbrev pub directed_of : Bool → Stmt → Stmt
+directed_of true s = directive_of s
+directed_of false s = s

@@ -1,5 +1,5 @@
 -- The pieces of the definitions that those of the code are.
-use Rattle.std.specs.Prelude.{◌≡◌, ℕ, List, [], ◌∷◌, Option, Some, None, Result, IfOk}
+use Rattle.std.specs.Prelude.{◌≡◌, ℕ, List, [], ◌∷◌, Option, Some, Result, IfOk}
 use Rattle.std.specs.Option.{option_map}
 use Rattle.std.specs.declared.alloc.AllocError.{AllocError}
 use Rattle.js_tree.specs.Plain as tree
@@ -9,7 +9,6 @@ use Rattle.js_tree.specs.declared.tree.StmtNode.{StmtNode}
 use Rattle.js_tree.specs.Tree.{plain_expr, plain_expr_node, plain_exprs, plain_property_key, plain_stmt, plain_stmt_node, plain_stmts}
 use Rattle.js_reading.specs.Slots.{AnExpr, AStmt, TheStmts, TheExprs, AWord, AKey, AText, APlace, AKind, Missing, IsComputed, IsMethod, IsIn, IsOf}
 use Rattle.js_reading.specs.Slots as slot
-use Rattle.js_build.specs.declared.operand.Body.{Body}
 use Rattle.js_build.specs.declared.operand.Operand.{Operand}
 use Rattle.js_build.specs.declared.piece.Piece.{Piece}
 use Rattle.js_build.specs.declared.piece.Piece.TheVariants as p
@@ -49,8 +48,8 @@ abbrev pub Makes : Result (Option Piece) AllocError → Option slot.Piece → Ty
 Makes result due = IfOk result (λ made. option_map plain_piece made ≡ due)
 
 -- the same of an expression of this level, and of a statement
-abbrev pub MakesExpr : Result Operand AllocError → ℕ → tree.Expr → Type 0
-MakesExpr result level e = IfOk result (λ made. (plain_expr made.tree ≡ e) × (made.level ≡ level))
+abbrev pub MakesExpr : Result (Option Piece) AllocError → ℕ → tree.Expr → Type 0
+MakesExpr result level e = Makes result (Some (AnExpr level e))
 
-abbrev pub MakesStmt : Result Body AllocError → tree.Stmt → Type 0
-MakesStmt result s = IfOk result (λ made. plain_stmt made.tree ≡ s)
+abbrev pub MakesStmt : Result (Option Piece) AllocError → tree.Stmt → Type 0
+MakesStmt result s = Makes result (Some (AStmt s))

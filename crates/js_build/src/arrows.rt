@@ -10,12 +10,12 @@ ghost use Rattle.js_build.specs.Callables.{concise_view, params_view};
 ghost use Rattle.js_build.specs.View.{plain_pieces, Makes, MakesExpr};
 
 use crate::callables::{body, braces};
-use crate::make::expression;
-use crate::names::into_identifier;
+use crate::make::{expression, nothing};
+use crate::names::{discard_node, into_identifier};
 use crate::parts::{MadeConcise, MadeParams};
 use crate::piece::discard;
 use crate::queue::{Pieces, Queue};
-use crate::shapes::take_expression;
+use crate::shapes::{is_over, take_expression};
 use crate::tests::is_name;
 use crate::{List, Operand, Piece};
 use items::{Boxed, Items, Memory};
@@ -84,29 +84,10 @@ fn node_param(loc: Option<Loc>, node: ExprNode) -> Option<Param>
         ExprNode::Assignment(operator, target, value) => {
             assigned_param(loc, operator, target, value)
         }
-        ExprNode::This => None,
-        ExprNode::NullLiteral => None,
-        ExprNode::BooleanLiteral(_) => None,
-        ExprNode::NumericLiteral(_) => None,
-        ExprNode::StringLiteral(_) => None,
-        ExprNode::ArrayLiteral(_) => None,
-        ExprNode::ObjectLiteral(_) => None,
-        ExprNode::FunctionExpression(_, _) => None,
-        ExprNode::ArrowFunction(_, _) => None,
-        ExprNode::RegularExpressionLiteral(_, _) => None,
-        ExprNode::TemplateLiteral(_, _) => None,
-        ExprNode::Parenthesized(_) => None,
-        ExprNode::NamedMember(_, _) => None,
-        ExprNode::ComputedMember(_, _) => None,
-        ExprNode::New(_, _) => None,
-        ExprNode::Call(_, _) => None,
-        ExprNode::PostfixUpdate(_, _) => None,
-        ExprNode::PrefixUpdate(_, _) => None,
-        ExprNode::Unary(_, _) => None,
-        ExprNode::Binary(_, _, _) => None,
-        ExprNode::Logical(_, _, _) => None,
-        ExprNode::Conditional(_, _, _) => None,
-        ExprNode::Comma(_, _) => None,
+        other => {
+            discard_node(other);
+            None
+        }
     }
 }
 
@@ -140,20 +121,16 @@ fn into_params(alloc: Global, list: List) -> Result<Option<MadeParams>, Memory>
 }
 
 /// An arrow's body that is an expression.
-#[tactic(auto, using(js_tree::proofs::Equations::concise_body_expression_body))]
+#[tactic(auto, using(js_tree::proofs::Equations::concise_body_expression_body, crate::proofs::ArrowLaws::concise_expression))]
 pub(crate) fn expression_body(
     alloc: Global,
     value: Operand,
-    mut pieces: Pieces,
+    pieces: Pieces,
 ) -> Result<Option<MadeConcise>, Memory>
     ensures { IfOk result (λ made. option_map concise_view made ≡ makes.concise (AnExpr value.level (plain_expr value.tree) ∷ plain_pieces pieces)) }
 {
-    match pieces.next() {
-        None => {}
-        other => {
-            discard(other);
-            return Ok(None);
-        }
+    if !is_over(pieces) {
+        return Ok(None);
     }
     let height = value.height;
     let last_level = value.last_level;
@@ -180,12 +157,8 @@ pub(crate) fn block_body(
         None => return Ok(None),
         Some(braces) => braces,
     };
-    match pieces.next() {
-        None => {}
-        other => {
-            discard(other);
-            return Ok(None);
-        }
+    if !is_over(pieces) {
+        return Ok(None);
     }
     let body = body(alloc, opening, statements, closing)?;
     let height = body.height;
@@ -205,7 +178,7 @@ fn arrow_node(
     place: Loc,
     params: MadeParams,
     body: MadeConcise,
-) -> Result<Operand, Memory>
+) -> Result<Option<Piece>, Memory>
     ensures { MakesExpr result 2 (tree.ArrowFunction (Some place) 0 (plain_params params.items) (plain_concise_body body.tree)) }
 {
     let parts = params.height.max(body.height);
@@ -226,10 +199,10 @@ pub(crate) fn arrow(
     ensures { Makes result (makes.arrow_of place (makes.params_of (plain_exprs list.items)) (option_map concise_view body)) }
 {
     match body {
-        None => Ok(None),
+        None => nothing(),
         Some(body) => match into_params(alloc, list)? {
-            None => Ok(None),
-            Some(params) => Ok(Some(Piece::Expression(arrow_node(alloc, place, params, body)?))),
+            None => nothing(),
+            Some(params) => arrow_node(alloc, place, params, body),
         },
     }
 }
@@ -272,14 +245,14 @@ pub(crate) fn arrow_of_name(
     ensures { Makes result (makes.build form.ArrowOfName place (plain_pieces pieces)) }
 {
     match take_expression(&mut pieces) {
-        None => Ok(None),
+        None => nothing(),
         Some(name) => {
             if is_name(name.tree.get()) {
                 let body = concise(alloc, pieces)?;
                 let list = list_of_one(alloc, name)?;
                 arrow(alloc, place, list, body)
             } else {
-                Ok(None)
+                nothing()
             }
         }
     }

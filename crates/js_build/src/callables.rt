@@ -6,6 +6,7 @@ ghost use Rattle.js_reading.specs.Spans as spans;
 ghost use Rattle.js_reading.specs.Makes as makes;
 ghost use Rattle.js_reading.specs.Slots.{APlace};
 ghost use Rattle.js_build.specs.Callables.{braces_of, braces_view, callable_view, function_view, initializer_of, initializer_view, param_with, plain_initializer, prepend};
+ghost use Rattle.js_build.specs.DeclaratorPieces.{cons_if};
 ghost use Rattle.js_build.specs.View.{plain_pieces};
 
 use crate::make::above;
@@ -14,31 +15,36 @@ use crate::parts::{Initializer, MadeBody, MadeFunction, MadeParam, MadeParams};
 use crate::piece::discard;
 use crate::place::through;
 use crate::prologue::with_directives;
-use crate::queue::Pieces;
+use crate::queue::{Pieces, taken};
+use crate::shapes::{is_over, maybe, take_place, take_statements};
 use crate::{Piece, Statements};
 use items::{Boxed, Items, Memory};
 use js_tree::{Expr, Function, FunctionBody, Loc, Name, Param};
 use std::alloc::Global;
+
+/// What stands after a name that is bound, whose first piece is taken.
+#[tactic(auto, using(crate::proofs::CallableLaws::initializer_first))]
+pub(crate) fn initializer_after(next: Option<Piece>, pieces: &mut Pieces) -> Option<Initializer>
+    ensures read { initializer_view result (plain_pieces pieces.new) ≡ initializer_of (cons_if next (plain_pieces pieces.old)) }
+    ensures shorter { length pieces.new ≤ length pieces.old }
+{
+    match maybe(next) {
+        None => None,
+        Some(None) => Some(Initializer::Without),
+        Some(Some(value)) => match take_place(pieces) {
+            None => None,
+            Some(end) => Some(Initializer::With(value, end)),
+        },
+    }
+}
 
 /// What stands after a name that is bound.
 pub(crate) fn initializer(pieces: &mut Pieces) -> Option<Initializer>
     ensures read { initializer_view result (plain_pieces pieces.new) ≡ initializer_of (plain_pieces pieces.old) }
     ensures shorter { length pieces.new ≤ length pieces.old }
 {
-    match pieces.next() {
-        Some(Piece::Missing) => Some(Initializer::Without),
-        Some(Piece::Expression(value)) => match pieces.next() {
-            Some(Piece::Place(end)) => Some(Initializer::With(value, end)),
-            other => {
-                discard(other);
-                None
-            }
-        },
-        other => {
-            discard(other);
-            None
-        }
-    }
+    let next = taken(pieces);
+    initializer_after(next, pieces)
 }
 
 /// A parameter without a default.
@@ -117,22 +123,17 @@ fn function_node(alloc: Global, params: MadeParams, body: MadeBody) -> Result<Ma
 }
 
 /// Statements in braces after the place of the `{`, and where the `}` stands.
+#[tactic(auto, using(crate::proofs::CallableLaws::braces_first))]
 pub(crate) fn braces(pieces: &mut Pieces) -> Option<(Statements, Loc)>
-    ensures { braces_view result (plain_pieces pieces.new) ≡ braces_of (plain_pieces pieces.old) }
+    ensures read { braces_view result (plain_pieces pieces.new) ≡ braces_of (plain_pieces pieces.old) }
+    ensures shorter { length pieces.new ≤ length pieces.old }
 {
-    let statements = match pieces.next() {
-        Some(Piece::Statements(statements)) => statements,
-        other => {
-            discard(other);
-            return None;
-        }
-    };
-    match pieces.next() {
-        Some(Piece::Place(closing)) => Some((statements, closing)),
-        other => {
-            discard(other);
-            None
-        }
+    match take_statements(pieces) {
+        None => None,
+        Some(statements) => match take_place(pieces) {
+            None => None,
+            Some(closing) => Some((statements, closing)),
+        },
     }
 }
 
@@ -194,12 +195,12 @@ pub(crate) fn function(alloc: Global, mut pieces: Pieces) -> Result<Option<MadeF
 {
     match callable(alloc, &mut pieces)? {
         None => Ok(None),
-        Some((function, _)) => match pieces.next() {
-            None => Ok(Some(function)),
-            other => {
-                discard(other);
+        Some((function, _)) => {
+            if is_over(pieces) {
+                Ok(Some(function))
+            } else {
                 Ok(None)
             }
-        },
+        }
     }
 }

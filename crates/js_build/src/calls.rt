@@ -1,17 +1,16 @@
-ghost use Rattle.std.specs.Prelude.{◌≡◌, ◌∷◌, Some};
+ghost use Rattle.std.specs.Prelude.{◌≡◌, Some};
 ghost use Rattle.js_tree.specs.Plain as tree;
 ghost use Rattle.js_tree.specs.Tree.{plain_expr, plain_exprs};
 ghost use Rattle.js_reading.specs.Makes.{build};
 ghost use Rattle.js_reading.specs.Productions as productions;
 ghost use Rattle.js_reading.specs.declared.form.Form.TheVariants as form;
-ghost use Rattle.js_reading.specs.Slots.{AnExpr};
 ghost use Rattle.js_build.specs.CallShapes as shape;
 ghost use Rattle.js_build.specs.View.{plain_pieces, Makes, MakesExpr};
 
-use crate::make::expression;
+use crate::make::{expression, nothing};
 use crate::piece::discard;
 use crate::queue::Pieces;
-use crate::shapes::{take_expression, two_expressions};
+use crate::shapes::{is_over, take_expression, take_list, two_expressions};
 use crate::{List, Operand, Piece};
 use items::{Items, Memory};
 use js_tree::{ExprNode, Loc, Name};
@@ -25,28 +24,19 @@ fn member_level(level: u8) -> u8
 }
 
 /// One list, in brackets.
+#[tactic(auto, using(crate::proofs::CallForms::one_list_first))]
 pub(crate) fn one_list(mut pieces: Pieces) -> Option<List>
     ensures { shape.list_if result ≡ shape.one_list (plain_pieces pieces) }
 {
-    let list = match pieces.next() {
-        Some(Piece::Expressions(_, list)) => list,
-        other => {
-            discard(other);
-            return None;
-        }
-    };
-    match pieces.next() {
-        None => Some(list),
-        other => {
-            discard(other);
-            None
-        }
+    match take_list(&mut pieces) {
+        None => None,
+        Some((_, list)) => { if is_over(pieces) { Some(list) } else { None } }
     }
 }
 
 /// An array.
 #[tactic(auto, using(js_tree::proofs::Equations::expr_array_literal))]
-fn array_node(alloc: Global, place: Loc, list: List) -> Result<Operand, Memory>
+fn array_node(alloc: Global, place: Loc, list: List) -> Result<Option<Piece>, Memory>
     ensures { MakesExpr result 22 (tree.ArrayLiteral (Some place) (plain_exprs list.items)) }
 {
     let parts = list.height;
@@ -56,7 +46,12 @@ fn array_node(alloc: Global, place: Loc, list: List) -> Result<Operand, Memory>
 
 /// A call.
 #[tactic(auto, using(js_tree::proofs::Equations::expr_call))]
-fn call_node(alloc: Global, place: Loc, callee: Operand, list: List) -> Result<Operand, Memory>
+fn call_node(
+    alloc: Global,
+    place: Loc,
+    callee: Operand,
+    list: List,
+) -> Result<Option<Piece>, Memory>
     ensures { MakesExpr result 20 (tree.Call (Some place) (plain_expr callee.tree) (plain_exprs list.items)) }
 {
     let parts = callee.height.max(list.height);
@@ -72,7 +67,7 @@ fn new_node(
     place: Loc,
     callee: Operand,
     list: List,
-) -> Result<Operand, Memory>
+) -> Result<Option<Piece>, Memory>
     ensures { MakesExpr result level (tree.New (Some place) (plain_expr callee.tree) (plain_exprs list.items)) }
 {
     let parts = callee.height.max(list.height);
@@ -82,7 +77,7 @@ fn new_node(
 
 /// A member by name.
 #[tactic(auto, using(js_tree::proofs::Equations::expr_named_member))]
-fn dot_node(alloc: Global, place: Loc, object: Operand, name: Name) -> Result<Operand, Memory>
+fn dot_node(alloc: Global, place: Loc, object: Operand, name: Name) -> Result<Option<Piece>, Memory>
     ensures { MakesExpr result (productions.member_level object.level) (tree.NamedMember (Some place) (plain_expr object.tree) name) }
 {
     let parts = object.height;
@@ -93,7 +88,12 @@ fn dot_node(alloc: Global, place: Loc, object: Operand, name: Name) -> Result<Op
 
 /// A member by expression.
 #[tactic(auto, using(js_tree::proofs::Equations::expr_computed_member))]
-fn member_node(alloc: Global, place: Loc, object: Operand, key: Operand) -> Result<Operand, Memory>
+fn member_node(
+    alloc: Global,
+    place: Loc,
+    object: Operand,
+    key: Operand,
+) -> Result<Option<Piece>, Memory>
     ensures { MakesExpr result (productions.member_level object.level) (tree.ComputedMember (Some place) (plain_expr object.tree) (plain_expr key.tree)) }
 {
     let parts = object.height.max(key.height);
@@ -108,8 +108,8 @@ pub(crate) fn array(alloc: Global, place: Loc, pieces: Pieces) -> Result<Option<
     ensures { Makes result (build form.ArrayLiteral place (plain_pieces pieces)) }
 {
     match one_list(pieces) {
-        None => Ok(None),
-        Some(list) => Ok(Some(Piece::Expression(array_node(alloc, place, list)?))),
+        None => nothing(),
+        Some(list) => array_node(alloc, place, list),
     }
 }
 
@@ -119,10 +119,10 @@ pub(crate) fn call(alloc: Global, place: Loc, mut pieces: Pieces) -> Result<Opti
     ensures { Makes result (build form.Call place (plain_pieces pieces)) }
 {
     match take_expression(&mut pieces) {
-        None => Ok(None),
+        None => nothing(),
         Some(callee) => match one_list(pieces) {
-            None => Ok(None),
-            Some(list) => Ok(Some(Piece::Expression(call_node(alloc, place, callee, list)?))),
+            None => nothing(),
+            Some(list) => call_node(alloc, place, callee, list),
         },
     }
 }
@@ -138,30 +138,19 @@ fn no_list(alloc: Global) -> List
     }
 }
 
-/// A construction, after its callee.
-fn new_rest(
-    alloc: Global,
-    place: Loc,
-    callee: Operand,
-    mut pieces: Pieces,
-) -> Result<Option<Piece>, Memory>
-    ensures { Makes result (build form.New place (AnExpr callee.level (plain_expr callee.tree) ∷ plain_pieces pieces)) }
+/// The arguments of a construction and its level, which is another without them; nothing else stands there.
+fn arguments(alloc: Global, mut pieces: Pieces) -> Option<(u8, List)>
+    ensures { shape.arguments_view result ≡ shape.arguments_of (plain_pieces pieces) }
 {
-    let (level, list) = match pieces.next() {
+    let found = match pieces.next() {
         Some(Piece::Missing) => (19, no_list(alloc)),
         Some(Piece::Expressions(_, list)) => (21, list),
         other => {
             discard(other);
-            return Ok(None);
+            return None;
         }
     };
-    match pieces.next() {
-        None => Ok(Some(Piece::Expression(new_node(alloc, level, place, callee, list)?))),
-        other => {
-            discard(other);
-            Ok(None)
-        }
-    }
+    if is_over(pieces) { Some(found) } else { None }
 }
 
 /// A construction (13.3.5).
@@ -170,34 +159,26 @@ pub(crate) fn new(alloc: Global, place: Loc, mut pieces: Pieces) -> Result<Optio
     ensures { Makes result (build form.New place (plain_pieces pieces)) }
 {
     match take_expression(&mut pieces) {
-        None => Ok(None),
-        Some(callee) => new_rest(alloc, place, callee, pieces),
+        None => nothing(),
+        Some(callee) => match arguments(alloc, pieces) {
+            None => nothing(),
+            Some((level, list)) => new_node(alloc, level, place, callee, list),
+        },
     }
 }
 
-/// A member by name, after its object.
-fn dot_rest(
-    alloc: Global,
-    place: Loc,
-    object: Operand,
-    mut pieces: Pieces,
-) -> Result<Option<Piece>, Memory>
-    ensures { Makes result (build form.Dot place (AnExpr object.level (plain_expr object.tree) ∷ plain_pieces pieces)) }
+/// One name.
+fn one_name(mut pieces: Pieces) -> Option<Name>
+    ensures { result ≡ shape.one_name (plain_pieces pieces) }
 {
     let name = match pieces.next() {
         Some(Piece::Word(name, _)) => name,
         other => {
             discard(other);
-            return Ok(None);
+            return None;
         }
     };
-    match pieces.next() {
-        None => Ok(Some(Piece::Expression(dot_node(alloc, place, object, name)?))),
-        other => {
-            discard(other);
-            Ok(None)
-        }
-    }
+    if is_over(pieces) { Some(name) } else { None }
 }
 
 /// A member by name (13.3.2).
@@ -206,8 +187,11 @@ pub(crate) fn dot(alloc: Global, place: Loc, mut pieces: Pieces) -> Result<Optio
     ensures { Makes result (build form.Dot place (plain_pieces pieces)) }
 {
     match take_expression(&mut pieces) {
-        None => Ok(None),
-        Some(object) => dot_rest(alloc, place, object, pieces),
+        None => nothing(),
+        Some(object) => match one_name(pieces) {
+            None => nothing(),
+            Some(name) => dot_node(alloc, place, object, name),
+        },
     }
 }
 
@@ -217,7 +201,7 @@ pub(crate) fn member(alloc: Global, place: Loc, pieces: Pieces) -> Result<Option
     ensures { Makes result (build form.Member place (plain_pieces pieces)) }
 {
     match two_expressions(pieces) {
-        None => Ok(None),
-        Some((object, key)) => Ok(Some(Piece::Expression(member_node(alloc, place, object, key)?))),
+        None => nothing(),
+        Some((object, key)) => member_node(alloc, place, object, key),
     }
 }

@@ -1,4 +1,4 @@
-ghost use Rattle.std.specs.Prelude.{◌≡◌, ◌<◌, ◌≤◌, ◌∷◌, IfErr, IfOk, None, OnErr, OnOk, Some, false, length};
+ghost use Rattle.std.specs.Prelude.{◌≡◌, ◌<◌, ◌≤◌, ◌∷◌, IfErr, IfOk, None, OnOk, Some, false, length};
 ghost use Rattle.js_tree.specs.Height.{height_declarator};
 ghost use Rattle.js_tree.specs.Plain as tree;
 ghost use Rattle.js_tree.specs.Tree.{plain_declarator, plain_declarators, plain_expr};
@@ -9,14 +9,15 @@ ghost use Rattle.js_build.specs.Callables.{initializer_of, plain_initializer};
 ghost use Rattle.js_build.specs.DeclaratorPieces as declared;
 ghost use Rattle.js_build.specs.View.{plain_pieces, Makes, MakesStmt};
 
+use crate::Piece;
 use crate::callables::initializer;
 use crate::lists::{MadeDeclarator, MadeDeclarators};
-use crate::make::{above, statement};
+use crate::make::{above, nothing, statement};
 use crate::names::bound;
 use crate::parts::Initializer;
+use crate::piece::discard;
 use crate::place::through;
 use crate::queue::Pieces;
-use crate::{Body, Piece};
 use items::{Boxed, Items, Memory};
 use js_tree::{Declarator, Expr, Loc, Name, StmtNode, VariableKind};
 use std::alloc::Global;
@@ -111,7 +112,6 @@ fn declared_next(
 /// Declarators after those that are made, and the piece after them.
 #[tactic(auto, using(js_tree::proofs::Equations::declarators_push, crate::proofs::DeclarationLaws::declared_rules))]
 pub(crate) fn declarators(
-    alloc: Global,
     strict: bool,
     made: MadeDeclarators,
     pieces: &mut Pieces,
@@ -161,7 +161,7 @@ fn variables_node(
     place: Loc,
     kind: VariableKind,
     made: MadeDeclarators,
-) -> Result<Body, Memory>
+) -> Result<Option<Piece>, Memory>
     ensures { MakesStmt result (tree.VariableDeclaration (Some place) kind (plain_declarators made.items)) }
 {
     let parts = made.height;
@@ -179,11 +179,14 @@ pub(crate) fn variables(
 ) -> Result<Option<Piece>, Memory>
     ensures { Makes result (makes.build (form.Variables kind) place (plain_pieces pieces)) }
 {
-    match declarators(alloc, is_const(kind), no_declarators(alloc), &mut pieces)? {
-        None => Ok(None),
+    match declarators(is_const(kind), no_declarators(alloc), &mut pieces)? {
+        None => nothing(),
         Some((made, next)) => match next {
-            None => Ok(Some(Piece::Statement(variables_node(alloc, place, kind, made)?))),
-            Some(_) => Ok(None),
+            None => variables_node(alloc, place, kind, made),
+            other => {
+                discard(other);
+                Ok(None)
+            }
         },
     }
 }

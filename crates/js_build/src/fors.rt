@@ -9,10 +9,9 @@ ghost use Rattle.js_build.specs.Fors as spec;
 ghost use Rattle.js_build.specs.Lists.{test_view};
 ghost use Rattle.js_build.specs.View.{plain_pieces, Makes, MakesStmt};
 
-use crate::make::statement;
-use crate::piece::discard;
+use crate::make::{nothing, statement};
 use crate::queue::Pieces;
-use crate::shapes::{an_expression_a_statement, one_statement};
+use crate::shapes::{an_expression_a_statement, maybe, one_statement, take_maybe};
 use crate::tests::{is_async, is_target};
 use crate::{Body, Operand, Piece};
 use items::{Boxed, Memory};
@@ -44,7 +43,7 @@ fn for_node(
     test: Option<Operand>,
     update: Option<Operand>,
     body: Body,
-) -> Result<Body, Memory>
+) -> Result<Option<Piece>, Memory>
     requires { first ≡ height_for_init (plain_for_init init) }
     ensures { MakesStmt result (tree.For (Some place) (plain_for_init init) (test_view test) (test_view update) (plain_stmt body.tree)) }
 {
@@ -65,7 +64,7 @@ fn for_in_node(
     first: u64,
     object: Operand,
     body: Body,
-) -> Result<Body, Memory>
+) -> Result<Option<Piece>, Memory>
     requires { first ≡ height_for_target (plain_for_target target) }
     ensures { MakesStmt result (tree.ForIn (Some place) (plain_for_target target) (plain_expr object.tree) (plain_stmt body.tree)) }
 {
@@ -84,7 +83,7 @@ fn for_of_node(
     first: u64,
     object: Operand,
     body: Body,
-) -> Result<Body, Memory>
+) -> Result<Option<Piece>, Memory>
     requires { first ≡ height_for_target (plain_for_target target) }
     ensures { MakesStmt result (tree.ForOf (Some place) (plain_for_target target) (plain_expr object.tree) (plain_stmt body.tree)) }
 {
@@ -92,34 +91,6 @@ fn for_of_node(
     let target = Boxed::new(alloc, target)?;
     let node = StmtNode::ForOf(target, object.tree, body.tree);
     statement(alloc, place, node, parts)
-}
-
-/// The second part of a `for`.
-fn maybe(piece: Option<Piece>) -> Option<Option<Operand>>
-    ensures { spec.maybe_view result ≡ spec.maybe_of piece }
-{
-    match piece {
-        Some(Piece::Missing) => Some(None),
-        Some(Piece::Expression(operand)) => Some(Some(operand)),
-        other => {
-            discard(other);
-            None
-        }
-    }
-}
-
-/// The third part of a `for`.
-fn take_maybe(pieces: &mut Pieces) -> Option<Option<Operand>>
-    ensures { spec.maybe_taken result (plain_pieces pieces.new) ≡ spec.first_maybe (plain_pieces pieces.old) }
-{
-    match pieces.next() {
-        Some(Piece::Missing) => Some(None),
-        Some(Piece::Expression(operand)) => Some(Some(operand)),
-        other => {
-            discard(other);
-            None
-        }
-    }
 }
 
 /// A `for` after its first part, which has this height; the next piece is taken.
@@ -136,14 +107,12 @@ pub(crate) fn for_rest(
     ensures { Makes result (makes.for_of place (plain_for_init init) (cons_if next (plain_pieces pieces))) }
 {
     match maybe(next) {
-        None => Ok(None),
+        None => nothing(),
         Some(test) => match take_maybe(&mut pieces) {
-            None => Ok(None),
+            None => nothing(),
             Some(update) => match one_statement(pieces) {
-                None => Ok(None),
-                Some(body) => Ok(Some(Piece::Statement(for_node(
-                    alloc, place, init, first, test, update, body,
-                )?))),
+                None => nothing(),
+                Some(body) => for_node(alloc, place, init, first, test, update, body),
             },
         },
     }
@@ -162,12 +131,12 @@ pub(crate) fn for_each(
     ensures { Makes result (spec.each_of of place (plain_for_target target) (plain_pieces pieces)) }
 {
     match an_expression_a_statement(pieces) {
-        None => Ok(None),
+        None => nothing(),
         Some((object, body)) => {
             if of {
-                Ok(Some(Piece::Statement(for_of_node(alloc, place, target, first, object, body)?)))
+                for_of_node(alloc, place, target, first, object, body)
             } else {
-                Ok(Some(Piece::Statement(for_in_node(alloc, place, target, first, object, body)?)))
+                for_in_node(alloc, place, target, first, object, body)
             }
         }
     }
@@ -210,7 +179,7 @@ fn for_each_expression(
     ensures { Makes result (spec.guarded (spec.may_take of (plain_expr operand.tree)) (spec.each_of of place (tree.TargetExpression (plain_expr operand.tree)) (plain_pieces pieces))) }
 {
     if !may_take(of, operand.tree.get()) {
-        return Ok(None);
+        return nothing();
     }
     let height = operand.height;
     let target = ForTarget::TargetExpression(operand.tree);

@@ -1,16 +1,16 @@
-ghost use Rattle.std.specs.Prelude.{◌≡◌, Some};
+ghost use Rattle.std.specs.Prelude.{Some};
 ghost use Rattle.js_tree.specs.Plain as tree;
 ghost use Rattle.js_tree.specs.Tree.{plain_function};
 ghost use Rattle.js_reading.specs.Makes.{build, declaration_of, expression_of, function_of};
 ghost use Rattle.js_reading.specs.declared.form.Form.TheVariants as form;
 ghost use Rattle.js_build.specs.View.{plain_pieces, Makes, MakesExpr, MakesStmt};
 
+use crate::Piece;
 use crate::callables::function;
-use crate::make::{expression, statement};
+use crate::make::{expression, nothing, statement};
 use crate::parts::MadeFunction;
 use crate::piece::discard;
 use crate::queue::Pieces;
-use crate::{Body, Operand, Piece};
 use items::Memory;
 use js_tree::{ExprNode, Identifier, Loc, StmtNode};
 use std::alloc::Global;
@@ -22,7 +22,7 @@ fn expression_node(
     place: Loc,
     name: Option<Identifier>,
     function: MadeFunction,
-) -> Result<Operand, Memory>
+) -> Result<Option<Piece>, Memory>
     ensures { MakesExpr result 22 (tree.FunctionExpression (Some place) name (plain_function function.tree)) }
 {
     let parts = function.parts;
@@ -37,7 +37,7 @@ fn declaration_node(
     place: Loc,
     name: Identifier,
     function: MadeFunction,
-) -> Result<Body, Memory>
+) -> Result<Option<Piece>, Memory>
     ensures { MakesStmt result (tree.FunctionDeclaration (Some place) name (plain_function function.tree)) }
 {
     let parts = function.parts;
@@ -55,10 +55,8 @@ fn named(
     ensures { Makes result (expression_of (λ f. tree.FunctionExpression (Some place) name f) (function_of (plain_pieces pieces))) }
 {
     match function(alloc, pieces)? {
-        None => Ok(None),
-        Some(function) => Ok(Some(Piece::Expression(expression_node(
-            alloc, place, name, function,
-        )?))),
+        None => nothing(),
+        Some(function) => expression_node(alloc, place, name, function),
     }
 }
 
@@ -96,10 +94,8 @@ fn declared(
     ensures { Makes result (declaration_of (λ f. tree.FunctionDeclaration (Some place) name f) (function_of (plain_pieces pieces))) }
 {
     match function(alloc, pieces)? {
-        None => Ok(None),
-        Some(function) => Ok(Some(Piece::Statement(declaration_node(
-            alloc, place, name, function,
-        )?))),
+        None => nothing(),
+        Some(function) => declaration_node(alloc, place, name, function),
     }
 }
 

@@ -4,42 +4,24 @@ ghost use Rattle.js_tree.specs.Tree.{plain_declarators};
 ghost use Rattle.js_reading.specs.Makes as makes;
 ghost use Rattle.js_reading.specs.Slots.{AKind, AWord};
 ghost use Rattle.js_reading.specs.declared.form.Form.TheVariants as form;
-ghost use Rattle.js_build.specs.Callables.{initializer_of, initializer_view, plain_initializer};
+ghost use Rattle.js_build.specs.Callables.{plain_initializer};
 ghost use Rattle.js_build.specs.DeclaratorPieces as declared;
 ghost use Rattle.js_build.specs.Fors.{first_word};
 ghost use Rattle.js_build.specs.View.{plain_pieces, Makes};
 
 use crate::Piece;
+use crate::callables::initializer_after;
 use crate::declarations::{declarator, declarators, is_const, no_declarators, refuses};
 use crate::fors::{each_next, for_each, for_expression, for_rest};
 use crate::lists::MadeDeclarators;
+use crate::make::nothing;
 use crate::names::bound;
 use crate::parts::Initializer;
 use crate::piece::discard;
-use crate::queue::Pieces;
+use crate::queue::{Pieces, taken};
 use items::{Items, Memory};
 use js_tree::{ForInit, ForTarget, Loc, Name, VariableKind};
 use std::alloc::Global;
-
-/// What stands after a name that is bound, whose first piece is taken.
-fn initializer_after(next: Option<Piece>, pieces: &mut Pieces) -> Option<Initializer>
-    ensures { initializer_view result (plain_pieces pieces.new) ≡ initializer_of (declared.cons_if next (plain_pieces pieces.old)) }
-{
-    match next {
-        Some(Piece::Missing) => Some(Initializer::Without),
-        Some(Piece::Expression(value)) => match pieces.next() {
-            Some(Piece::Place(end)) => Some(Initializer::With(value, end)),
-            other => {
-                discard(other);
-                None
-            }
-        },
-        other => {
-            discard(other);
-            None
-        }
-    }
-}
 
 /// One declarator.
 fn one_declarator(
@@ -67,8 +49,8 @@ fn for_variables(
 ) -> Result<Option<Piece>, Memory>
     ensures { Makes result (makes.for_declared place kind (declared.front (plain_declarators made.items) (declared.settled (makes.declarators_of (makes.is_const kind) (plain_pieces pieces))))) }
 {
-    match declarators(alloc, is_const(kind), made, &mut pieces)? {
-        None => Ok(None),
+    match declarators(is_const(kind), made, &mut pieces)? {
+        None => nothing(),
         Some((made, next)) => {
             let height = made.height;
             let init = ForInit::InitDeclaration(kind, made.items);
@@ -91,10 +73,10 @@ fn for_named(
     ensures { Makes result (makes.for_declared place kind (declared.settled (makes.declarators_of (makes.is_const kind) (AWord name at ∷ declared.cons_if next (plain_pieces pieces))))) }
 {
     match initializer_after(next, &mut pieces) {
-        None => Ok(None),
+        None => nothing(),
         Some(initializer) => {
             if refuses(is_const(kind), &initializer) {
-                return Ok(None);
+                return nothing();
             }
             let made = one_declarator(alloc, name, at, initializer)?;
             for_variables(alloc, place, kind, made, pieces)
@@ -153,16 +135,6 @@ fn for_declaration(
             let init = ForInit::InitDeclaration(kind, made.items);
             for_rest(alloc, place, init, 0, next, pieces)
         }
-    }
-}
-
-/// The next piece, if there is one.
-fn taken(pieces: &mut Pieces) -> Option<Piece>
-    ensures { plain_pieces pieces.old ≡ declared.cons_if result (plain_pieces pieces.new) }
-{
-    match pieces.next() {
-        None => None,
-        Some(next) => Some(next),
     }
 }
 

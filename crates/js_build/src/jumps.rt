@@ -5,10 +5,11 @@ ghost use Rattle.js_reading.specs.declared.form.Form.TheVariants as form;
 ghost use Rattle.js_build.specs.Labels.{label_of};
 ghost use Rattle.js_build.specs.View.{plain_pieces, Makes, MakesStmt};
 
-use crate::make::statement;
+use crate::Piece;
+use crate::make::{nothing, statement};
 use crate::piece::discard;
 use crate::queue::Pieces;
-use crate::{Body, Piece};
+use crate::shapes::is_over;
 use items::Memory;
 use js_tree::{Identifier, Loc, StmtNode};
 use std::alloc::Global;
@@ -28,18 +29,16 @@ fn label(mut pieces: Pieces) -> Option<Option<Identifier>>
             return None;
         }
     };
-    match pieces.next() {
-        None => Some(label),
-        other => {
-            discard(other);
-            None
-        }
-    }
+    if is_over(pieces) { Some(label) } else { None }
 }
 
 /// `continue`.
 #[tactic(auto, using(js_tree::proofs::Equations::stmt_continue))]
-fn continue_node(alloc: Global, place: Loc, label: Option<Identifier>) -> Result<Body, Memory>
+fn continue_node(
+    alloc: Global,
+    place: Loc,
+    label: Option<Identifier>,
+) -> Result<Option<Piece>, Memory>
     ensures { MakesStmt result (tree.Continue (Some place) label) }
 {
     statement(alloc, place, StmtNode::Continue(label), 0)
@@ -47,7 +46,7 @@ fn continue_node(alloc: Global, place: Loc, label: Option<Identifier>) -> Result
 
 /// `break`.
 #[tactic(auto, using(js_tree::proofs::Equations::stmt_break))]
-fn break_node(alloc: Global, place: Loc, label: Option<Identifier>) -> Result<Body, Memory>
+fn break_node(alloc: Global, place: Loc, label: Option<Identifier>) -> Result<Option<Piece>, Memory>
     ensures { MakesStmt result (tree.Break (Some place) label) }
 {
     statement(alloc, place, StmtNode::Break(label), 0)
@@ -55,7 +54,7 @@ fn break_node(alloc: Global, place: Loc, label: Option<Identifier>) -> Result<Bo
 
 /// `;` alone.
 #[tactic(auto, using(js_tree::proofs::Equations::stmt_empty))]
-fn empty_node(alloc: Global, place: Loc) -> Result<Body, Memory>
+fn empty_node(alloc: Global, place: Loc) -> Result<Option<Piece>, Memory>
     ensures { MakesStmt result (tree.Empty (Some place)) }
 {
     statement(alloc, place, StmtNode::Empty, 0)
@@ -63,7 +62,7 @@ fn empty_node(alloc: Global, place: Loc) -> Result<Body, Memory>
 
 /// `debugger`.
 #[tactic(auto, using(js_tree::proofs::Equations::stmt_debugger))]
-fn debugger_node(alloc: Global, place: Loc) -> Result<Body, Memory>
+fn debugger_node(alloc: Global, place: Loc) -> Result<Option<Piece>, Memory>
     ensures { MakesStmt result (tree.Debugger (Some place)) }
 {
     statement(alloc, place, StmtNode::Debugger, 0)
@@ -79,8 +78,8 @@ pub(crate) fn continue_statement(
     ensures { Makes result (build form.Continue place (plain_pieces pieces)) }
 {
     match label(pieces) {
-        None => Ok(None),
-        Some(label) => Ok(Some(Piece::Statement(continue_node(alloc, place, label)?))),
+        None => nothing(),
+        Some(label) => continue_node(alloc, place, label),
     }
 }
 
@@ -94,37 +93,31 @@ pub(crate) fn break_statement(
     ensures { Makes result (build form.Break place (plain_pieces pieces)) }
 {
     match label(pieces) {
-        None => Ok(None),
-        Some(label) => Ok(Some(Piece::Statement(break_node(alloc, place, label)?))),
+        None => nothing(),
+        Some(label) => break_node(alloc, place, label),
     }
 }
 
 /// `;` alone (14.4).
-pub(crate) fn empty(alloc: Global, place: Loc, mut pieces: Pieces) -> Result<Option<Piece>, Memory>
+#[tactic(auto, using(crate::proofs::JumpForms::empty_form))]
+pub(crate) fn empty(alloc: Global, place: Loc, pieces: Pieces) -> Result<Option<Piece>, Memory>
     ensures { Makes result (build form.Empty place (plain_pieces pieces)) }
 {
-    match pieces.next() {
-        None => Ok(Some(Piece::Statement(empty_node(alloc, place)?))),
-        other => {
-            discard(other);
-            Ok(None)
-        }
+    if is_over(pieces) {
+        empty_node(alloc, place)
+    } else {
+        nothing()
     }
 }
 
 /// `debugger` (14.16).
-pub(crate) fn debugger(
-    alloc: Global,
-    place: Loc,
-    mut pieces: Pieces,
-) -> Result<Option<Piece>, Memory>
+#[tactic(auto, using(crate::proofs::JumpForms::debugger_form))]
+pub(crate) fn debugger(alloc: Global, place: Loc, pieces: Pieces) -> Result<Option<Piece>, Memory>
     ensures { Makes result (build form.Debugger place (plain_pieces pieces)) }
 {
-    match pieces.next() {
-        None => Ok(Some(Piece::Statement(debugger_node(alloc, place)?))),
-        other => {
-            discard(other);
-            Ok(None)
-        }
+    if is_over(pieces) {
+        debugger_node(alloc, place)
+    } else {
+        nothing()
     }
 }

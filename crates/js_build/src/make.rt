@@ -1,9 +1,9 @@
-ghost use Rattle.std.specs.Prelude.{◌≡◌, ◌+◌, IfOk};
+ghost use Rattle.std.specs.Prelude.{◌≡◌, ◌+◌, IfOk, None};
 ghost use Rattle.js_tree.specs.Height.{height_stmt};
 ghost use Rattle.js_build.specs.Measures.{measures};
-ghost use Rattle.js_build.specs.View.{expr_node, stmt_node, MakesExpr, MakesStmt};
+ghost use Rattle.js_build.specs.View.{expr_node, stmt_node, Makes, MakesExpr, MakesStmt};
 
-use crate::{Body, Operand};
+use crate::{Body, Operand, Piece};
 use items::{Boxed, Memory};
 use js_tree::{Expr, ExprNode, Loc, Stmt, StmtNode};
 use std::alloc::{AllocError, Global};
@@ -13,6 +13,13 @@ pub(crate) fn above(part: u64) -> Result<u64, Memory>
     ensures { IfOk result (λ height. height ≡ part + 1) }
 {
     part.checked_add(1).ok_or(AllocError)
+}
+
+/// That nothing is made.
+pub(crate) fn nothing() -> Result<Option<Piece>, Memory>
+    ensures { Makes result None }
+{
+    Ok(None)
 }
 
 /// An expression of this node and level, whose highest part has this height.
@@ -25,23 +32,23 @@ pub(crate) fn expression(
     parts: u64,
     last_level: u8,
     bare_in: bool,
-) -> Result<Operand, Memory>
+) -> Result<Option<Piece>, Memory>
     requires { measures (expr_node node place) ≡ (parts + 1, (last_level, bare_in)) }
     ensures { MakesExpr result level (expr_node node place) }
 {
-    let height = above(parts)?;
     let tree = Expr {
         loc: Some(place),
         node,
     };
     let tree = Boxed::new(alloc, tree)?;
-    Ok(Operand {
+    let height = above(parts)?;
+    Ok(Some(Piece::Expression(Operand {
         tree,
         level,
         last_level,
         bare_in,
         height,
-    })
+    })))
 }
 
 /// A statement of this node, whose highest part has this height.
@@ -51,15 +58,15 @@ pub(crate) fn statement(
     place: Loc,
     node: StmtNode,
     parts: u64,
-) -> Result<Body, Memory>
+) -> Result<Option<Piece>, Memory>
     requires { height_stmt (stmt_node node place) ≡ parts + 1 }
     ensures { MakesStmt result (stmt_node node place) }
 {
-    let height = above(parts)?;
     let tree = Stmt {
         loc: Some(place),
         node,
     };
     let tree = Boxed::new(alloc, tree)?;
-    Ok(Body { tree, height })
+    let height = above(parts)?;
+    Ok(Some(Piece::Statement(Body { tree, height })))
 }

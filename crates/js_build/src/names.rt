@@ -6,6 +6,9 @@ ghost use Rattle.js_build.specs.Names.{identifier_of};
 use items::Boxed;
 use js_tree::{Expr, ExprNode, Identifier, Loc, Name, Pattern, PatternNode};
 
+/// Lets a node go, whole, as `discard` does with a piece.
+pub(crate) fn discard_node(_node: ExprNode) {}
+
 /// The name that an expression is alone, if it is one.
 #[tactic(auto, using(js_tree::proofs::Equations::tree_rules))]
 pub(crate) fn into_identifier(expression: Boxed<Expr>) -> Option<Identifier>
@@ -14,7 +17,10 @@ pub(crate) fn into_identifier(expression: Boxed<Expr>) -> Option<Identifier>
     let (loc, node) = expression.into_inner().into_parts();
     match node {
         ExprNode::IdentifierReference(name) => Some(Identifier { loc, name }),
-        _ => None,
+        other => {
+            discard_node(other);
+            None
+        }
     }
 }
 

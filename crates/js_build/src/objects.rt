@@ -10,13 +10,13 @@ ghost use Rattle.js_build.specs.Objects as objects;
 ghost use Rattle.js_build.specs.View.{plain_piece, plain_pieces, Makes, MakesExpr};
 
 use crate::callables::callable;
-use crate::make::{above, expression};
+use crate::make::{above, expression, nothing};
 use crate::parts::MadeFunction;
 use crate::piece::discard;
 use crate::place::through;
 use crate::properties::{Definition, MadeProperties, MadeProperty};
 use crate::queue::Pieces;
-use crate::shapes::take_expression;
+use crate::shapes::{take_expression, take_place};
 use crate::{Key, Operand, Piece};
 use items::{Items, Memory};
 use js_text::reserved_word;
@@ -54,19 +54,6 @@ fn is_proto(key: &PropertyKey) -> bool
     }
 }
 
-/// The place that is next.
-fn take_place(pieces: &mut Pieces) -> Option<Loc>
-    ensures { objects.place_taken result (plain_pieces pieces.new) ≡ objects.first_place (plain_pieces pieces.old) }
-{
-    match pieces.next() {
-        Some(Piece::Place(place)) => Some(place),
-        other => {
-            discard(other);
-            None
-        }
-    }
-}
-
 /// A key that is computed.
 #[tactic(auto, using(js_tree::proofs::Equations::property_key_computed_key))]
 fn computed_key(value: Operand) -> Key
@@ -98,18 +85,10 @@ fn take_key(first: Piece, pieces: &mut Pieces) -> Option<(Key, Loc)>
     match first {
         Piece::Computed => computed(pieces),
         Piece::Key(key, place) => Some((key, place)),
-        Piece::Expression(_) => None,
-        Piece::Statement(_) => None,
-        Piece::Statements(_) => None,
-        Piece::Expressions(_, _) => None,
-        Piece::Word(_, _) => None,
-        Piece::Text(_) => None,
-        Piece::Place(_) => None,
-        Piece::Kind(_) => None,
-        Piece::Missing => None,
-        Piece::Method => None,
-        Piece::In => None,
-        Piece::Of => None,
+        other => {
+            discard(Some(other));
+            None
+        }
     }
 }
 
@@ -118,24 +97,17 @@ fn take_key(first: Piece, pieces: &mut Pieces) -> Option<(Key, Loc)>
 fn take_definition(pieces: &mut Pieces) -> Option<Definition>
     ensures { objects.definition_view result (plain_pieces pieces.new) ≡ objects.definition_of (plain_pieces pieces.old) }
 {
-    match pieces.next()? {
-        Piece::Missing => Some(Definition::Shorthand),
-        Piece::Expression(value) => match take_place(pieces) {
+    match pieces.next() {
+        Some(Piece::Missing) => Some(Definition::Shorthand),
+        Some(Piece::Method) => Some(Definition::Method),
+        Some(Piece::Expression(value)) => match take_place(pieces) {
             None => None,
             Some(end) => Some(Definition::Value(value, end)),
         },
-        Piece::Method => Some(Definition::Method),
-        Piece::Statement(_) => None,
-        Piece::Statements(_) => None,
-        Piece::Expressions(_, _) => None,
-        Piece::Word(_, _) => None,
-        Piece::Key(_, _) => None,
-        Piece::Text(_) => None,
-        Piece::Place(_) => None,
-        Piece::Kind(_) => None,
-        Piece::Computed => None,
-        Piece::In => None,
-        Piece::Of => None,
+        other => {
+            discard(other);
+            None
+        }
     }
 }
 
@@ -270,7 +242,11 @@ fn properties(alloc: Global, mut pieces: Pieces) -> Result<Option<MadeProperties
 
 /// An object.
 #[tactic(auto, using(js_tree::proofs::Equations::expr_object_literal))]
-fn object_node(alloc: Global, place: Loc, properties: MadeProperties) -> Result<Operand, Memory>
+fn object_node(
+    alloc: Global,
+    place: Loc,
+    properties: MadeProperties,
+) -> Result<Option<Piece>, Memory>
     ensures { MakesExpr result 22 (tree.ObjectLiteral (Some place) (plain_properties properties.items)) }
 {
     let parts = properties.height;
@@ -284,7 +260,7 @@ pub(crate) fn object(alloc: Global, place: Loc, pieces: Pieces) -> Result<Option
     ensures { Makes result (makes.build form.ObjectLiteral place (plain_pieces pieces)) }
 {
     match properties(alloc, pieces)? {
-        None => Ok(None),
-        Some(properties) => Ok(Some(Piece::Expression(object_node(alloc, place, properties)?))),
+        None => nothing(),
+        Some(properties) => object_node(alloc, place, properties),
     }
 }

@@ -1,4 +1,4 @@
-ghost use Rattle.std.specs.Prelude.{◌≡◌, ℕ, Some};
+ghost use Rattle.std.specs.Prelude.{Some};
 ghost use Rattle.js_tree.specs.Plain as tree;
 ghost use Rattle.js_tree.specs.Tree.{plain_expr};
 ghost use Rattle.js_reading.specs.Level.{binary_level, logical_level};
@@ -7,7 +7,7 @@ ghost use Rattle.js_reading.specs.declared.form.Form.TheVariants as form;
 ghost use Rattle.js_build.specs.View.{plain_pieces, Makes, MakesExpr};
 
 use crate::level::{binary_level, has_bare_in, logical_level};
-use crate::make::expression;
+use crate::make::{expression, nothing};
 use crate::queue::Pieces;
 use crate::shapes::{one_expression, three_expressions, two_expressions};
 use crate::tests::{is_mixed, is_target};
@@ -26,7 +26,7 @@ fn postfix_node(
     place: Loc,
     operator: UpdateOperator,
     operand: Operand,
-) -> Result<Operand, Memory>
+) -> Result<Option<Piece>, Memory>
     ensures { MakesExpr result 17 (tree.PostfixUpdate (Some place) operator (plain_expr operand.tree)) }
 {
     let parts = operand.height;
@@ -43,7 +43,7 @@ fn prefix_node(
     place: Loc,
     operator: UpdateOperator,
     operand: Operand,
-) -> Result<Operand, Memory>
+) -> Result<Option<Piece>, Memory>
     ensures { MakesExpr result 17 (tree.PrefixUpdate (Some place) operator (plain_expr operand.tree)) }
 {
     let parts = operand.height;
@@ -60,7 +60,7 @@ fn unary_node(
     place: Loc,
     operator: UnaryOperator,
     operand: Operand,
-) -> Result<Operand, Memory>
+) -> Result<Option<Piece>, Memory>
     ensures { MakesExpr result 16 (tree.Unary (Some place) operator (plain_expr operand.tree)) }
 {
     let parts = operand.height;
@@ -78,7 +78,7 @@ fn binary_node(
     operator: BinaryOperator,
     left: Operand,
     right: Operand,
-) -> Result<Operand, Memory>
+) -> Result<Option<Piece>, Memory>
     ensures { MakesExpr result (binary_level operator) (tree.Binary (Some place) operator (plain_expr left.tree) (plain_expr right.tree)) }
 {
     let parts = left.height.max(right.height);
@@ -104,7 +104,7 @@ fn logical_node(
     operator: LogicalOperator,
     left: Operand,
     right: Operand,
-) -> Result<Operand, Memory>
+) -> Result<Option<Piece>, Memory>
     ensures { MakesExpr result (logical_level operator) (tree.Logical (Some place) operator (plain_expr left.tree) (plain_expr right.tree)) }
 {
     let parts = left.height.max(right.height);
@@ -130,7 +130,7 @@ fn conditional_node(
     test: Operand,
     then: Operand,
     otherwise: Operand,
-) -> Result<Operand, Memory>
+) -> Result<Option<Piece>, Memory>
     ensures { MakesExpr result 3 (tree.Conditional (Some place) (plain_expr test.tree) (plain_expr then.tree) (plain_expr otherwise.tree)) }
 {
     let parts = test.height.max(then.height.max(otherwise.height));
@@ -148,7 +148,7 @@ fn assignment_node(
     operator: AssignmentOperator,
     target: Operand,
     value: Operand,
-) -> Result<Operand, Memory>
+) -> Result<Option<Piece>, Memory>
     ensures { MakesExpr result 2 (tree.Assignment (Some place) operator (plain_expr target.tree) (plain_expr value.tree)) }
 {
     let parts = target.height.max(value.height);
@@ -165,7 +165,7 @@ pub(crate) fn comma_node(
     place: Loc,
     left: Operand,
     right: Operand,
-) -> Result<Operand, Memory>
+) -> Result<Option<Piece>, Memory>
     ensures { MakesExpr result 1 (tree.Comma (Some place) (plain_expr left.tree) (plain_expr right.tree)) }
 {
     let parts = left.height.max(right.height);
@@ -186,12 +186,12 @@ pub(crate) fn postfix(
     ensures { Makes result (build (form.Postfix operator) place (plain_pieces pieces)) }
 {
     match one_expression(pieces) {
-        None => Ok(None),
+        None => nothing(),
         Some(operand) => {
             if is_target(operand.tree.get()) {
-                Ok(Some(Piece::Expression(postfix_node(alloc, place, operator, operand)?)))
+                postfix_node(alloc, place, operator, operand)
             } else {
-                Ok(None)
+                nothing()
             }
         }
     }
@@ -208,12 +208,12 @@ pub(crate) fn prefix_update(
     ensures { Makes result (build (form.PrefixUpdate operator) place (plain_pieces pieces)) }
 {
     match one_expression(pieces) {
-        None => Ok(None),
+        None => nothing(),
         Some(operand) => {
             if is_target(operand.tree.get()) {
-                Ok(Some(Piece::Expression(prefix_node(alloc, place, operator, operand)?)))
+                prefix_node(alloc, place, operator, operand)
             } else {
-                Ok(None)
+                nothing()
             }
         }
     }
@@ -230,8 +230,8 @@ pub(crate) fn unary(
     ensures { Makes result (build (form.Unary operator) place (plain_pieces pieces)) }
 {
     match one_expression(pieces) {
-        None => Ok(None),
-        Some(operand) => Ok(Some(Piece::Expression(unary_node(alloc, place, operator, operand)?))),
+        None => nothing(),
+        Some(operand) => unary_node(alloc, place, operator, operand),
     }
 }
 
@@ -246,10 +246,8 @@ pub(crate) fn binary(
     ensures { Makes result (build (form.Binary operator) place (plain_pieces pieces)) }
 {
     match two_expressions(pieces) {
-        None => Ok(None),
-        Some((left, right)) => Ok(Some(Piece::Expression(binary_node(
-            alloc, place, operator, left, right,
-        )?))),
+        None => nothing(),
+        Some((left, right)) => binary_node(alloc, place, operator, left, right),
     }
 }
 
@@ -264,12 +262,12 @@ pub(crate) fn logical(
     ensures { Makes result (build (form.Logical operator) place (plain_pieces pieces)) }
 {
     match two_expressions(pieces) {
-        None => Ok(None),
+        None => nothing(),
         Some((left, right)) => {
             if is_mixed(operator, left.tree.get()) {
-                Ok(None)
+                nothing()
             } else {
-                Ok(Some(Piece::Expression(logical_node(alloc, place, operator, left, right)?)))
+                logical_node(alloc, place, operator, left, right)
             }
         }
     }
@@ -285,10 +283,8 @@ pub(crate) fn conditional(
     ensures { Makes result (build (form.Conditional) place (plain_pieces pieces)) }
 {
     match three_expressions(pieces) {
-        None => Ok(None),
-        Some((test, then, otherwise)) => Ok(Some(Piece::Expression(conditional_node(
-            alloc, place, test, then, otherwise,
-        )?))),
+        None => nothing(),
+        Some((test, then, otherwise)) => conditional_node(alloc, place, test, then, otherwise),
     }
 }
 
@@ -303,12 +299,12 @@ pub(crate) fn assignment(
     ensures { Makes result (build (form.Assignment operator) place (plain_pieces pieces)) }
 {
     match two_expressions(pieces) {
-        None => Ok(None),
+        None => nothing(),
         Some((target, value)) => {
             if is_target(target.tree.get()) {
-                Ok(Some(Piece::Expression(assignment_node(alloc, place, operator, target, value)?)))
+                assignment_node(alloc, place, operator, target, value)
             } else {
-                Ok(None)
+                nothing()
             }
         }
     }
@@ -320,7 +316,7 @@ pub(crate) fn comma(alloc: Global, place: Loc, pieces: Pieces) -> Result<Option<
     ensures { Makes result (build (form.Comma) place (plain_pieces pieces)) }
 {
     match two_expressions(pieces) {
-        None => Ok(None),
-        Some((left, right)) => Ok(Some(Piece::Expression(comma_node(alloc, place, left, right)?))),
+        None => nothing(),
+        Some((left, right)) => comma_node(alloc, place, left, right),
     }
 }

@@ -8,11 +8,12 @@ ghost use Rattle.js_build.specs.Parentheses as spec;
 ghost use Rattle.js_build.specs.View.{plain_pieces, Makes, MakesExpr};
 
 use crate::arrows::{arrow, block_body, expression_body};
-use crate::make::expression;
+use crate::make::{expression, nothing};
 use crate::piece::discard;
 use crate::place::through;
 use crate::queue::{Pieces, Queue};
-use crate::{List, Operand, Piece};
+use crate::shapes::{is_over, take_list};
+use crate::{List, Piece};
 use items::{Boxed, Memory};
 use js_tree::{Expr, ExprNode, Loc};
 use std::alloc::Global;
@@ -72,7 +73,7 @@ fn parenthesized_node(
     place: Loc,
     inner: Expr,
     height: u64,
-) -> Result<Operand, Memory>
+) -> Result<Option<Piece>, Memory>
     requires { height_expr (plain_expr inner) ≡ height }
     ensures { MakesExpr result 21 (tree.Parenthesized (Some place) (plain_expr inner)) }
 {
@@ -86,28 +87,24 @@ fn parenthesized(
     place: Loc,
     trailing: bool,
     list: List,
-    mut pieces: Pieces,
+    pieces: Pieces,
 ) -> Result<Option<Piece>, Memory>
     ensures { Makes result (spec.parenthesized place trailing (plain_exprs list.items) (plain_pieces pieces)) }
 {
     if trailing {
-        return Ok(None);
+        return nothing();
     }
     let height = list.joined;
     let mut left = Queue::new(list.items.into_vec());
     match left.next() {
-        None => Ok(None),
-        Some(first) => match pieces.next() {
-            None => {
-                let inner = joined(alloc, first, left)?;
-                let made = parenthesized_node(alloc, place, inner, height)?;
-                Ok(Some(Piece::Expression(made)))
+        None => nothing(),
+        Some(first) => {
+            if !is_over(pieces) {
+                return nothing();
             }
-            other => {
-                discard(other);
-                Ok(None)
-            }
-        },
+            let inner = joined(alloc, first, left)?;
+            parenthesized_node(alloc, place, inner, height)
+        }
     }
 }
 
@@ -131,30 +128,9 @@ fn after_list(
             let body = block_body(alloc, opening, pieces)?;
             arrow(alloc, place, list, body)
         }
-        None => Ok(None),
-        Some(Piece::Statement(_)) => Ok(None),
-        Some(Piece::Statements(_)) => Ok(None),
-        Some(Piece::Expressions(_, _)) => Ok(None),
-        Some(Piece::Word(_, _)) => Ok(None),
-        Some(Piece::Key(_, _)) => Ok(None),
-        Some(Piece::Text(_)) => Ok(None),
-        Some(Piece::Kind(_)) => Ok(None),
-        Some(Piece::Computed) => Ok(None),
-        Some(Piece::Method) => Ok(None),
-        Some(Piece::In) => Ok(None),
-        Some(Piece::Of) => Ok(None),
-    }
-}
-
-/// The items in parentheses that are next, and whether nothing stands after their last comma.
-fn take_list(pieces: &mut Pieces) -> Option<(bool, List)>
-    ensures { spec.list_taken result (plain_pieces pieces.new) ≡ spec.first_list (plain_pieces pieces.old) }
-{
-    match pieces.next() {
-        Some(Piece::Expressions(trailing, list)) => Some((trailing, list)),
         other => {
             discard(other);
-            None
+            Ok(None)
         }
     }
 }
@@ -169,7 +145,7 @@ pub(crate) fn parentheses(
     ensures { Makes result (makes.build form.Parentheses place (plain_pieces pieces)) }
 {
     match take_list(&mut pieces) {
-        None => Ok(None),
+        None => nothing(),
         Some((trailing, list)) => after_list(alloc, place, trailing, list, pieces),
     }
 }

@@ -1,4 +1,3 @@
-ghost use Rattle.std.specs.Prelude.{◌≡◌};
 ghost use Rattle.js_reading.specs.Makes as makes;
 ghost use Rattle.js_build.specs.View.{plain_pieces, Makes};
 

@@ -2,7 +2,7 @@ ghost use Rattle.std.specs.Prelude.{◌≡◌, IfOk, IfErr, OnErr, false};
 ghost use Rattle.js_tree.specs.Plain as tree;
 ghost use Rattle.js_tree.specs.Tree.{plain_expr, plain_stmt, plain_stmts};
 ghost use Rattle.js_reading.specs.Makes as makes;
-ghost use Rattle.js_build.specs.Prologue.{directive_of, is_string, is_string_statement};
+ghost use Rattle.js_build.specs.Prologue.{directed_of, directive_of, is_string, is_string_statement};
 
 use crate::Statements;
 use crate::queue::Queue;
@@ -67,6 +67,17 @@ fn into_directive(alloc: Global, statement: Stmt) -> Result<Stmt, Memory>
     }
 }
 
+/// A statement, as a directive where it may be one.
+fn directed(alloc: Global, may: bool, statement: Stmt) -> Result<Stmt, Memory>
+    ensures { IfOk result (λ made. plain_stmt made ≡ directed_of may (plain_stmt statement)) }
+{
+    if may {
+        into_directive(alloc, statement)
+    } else {
+        Ok(statement)
+    }
+}
+
 /// Statements whose first strings are directives (11.2.1).
 #[tactic(auto, using(js_tree::proofs::Equations::stmts_push, crate::proofs::Directives::prologue_rules))]
 pub fn with_directives(alloc: Global, statements: Statements) -> Result<Statements, Memory>
@@ -81,11 +92,7 @@ pub fn with_directives(alloc: Global, statements: Statements) -> Result<Statemen
             None => break,
             Some(statement) => {
                 prologue = prologue && may_direct(&statement);
-                if prologue {
-                    items.push(into_directive(alloc, statement)?)?;
-                } else {
-                    items.push(statement)?;
-                }
+                items.push(directed(alloc, prologue, statement)?)?;
             }
         }
     }

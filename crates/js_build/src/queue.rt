@@ -1,5 +1,7 @@
 ghost use Rattle.std.specs.Prelude.{◌≡◌, ◌≤◌, [], ◌∷◌, length};
 ghost use Rattle.std.specs.Option.{MatchOption};
+ghost use Rattle.js_build.specs.DeclaratorPieces.{cons_if};
+ghost use Rattle.js_build.specs.View.{plain_pieces};
 
 use crate::Piece;
 use std::alloc::Global;
@@ -43,5 +45,16 @@ impl<T: Drop> Queue<T> {
         ensures shorter { length self.new ≤ length self.old }
     {
         self.left.next()
+    }
+}
+
+/// The next piece, if there is one.
+pub(crate) fn taken(pieces: &mut Pieces) -> Option<Piece>
+    ensures next { plain_pieces pieces.old ≡ cons_if result (plain_pieces pieces.new) }
+    ensures shorter { length pieces.new ≤ length pieces.old }
+{
+    match pieces.next() {
+        None => None,
+        Some(next) => Some(next),
     }
 }

@@ -4,59 +4,35 @@ ghost use Rattle.js_tree.specs.Plain as tree;
 ghost use Rattle.js_tree.specs.Tree.{plain_case, plain_cases, plain_expr, plain_stmts};
 ghost use Rattle.js_reading.specs.Makes.{build, cases_of};
 ghost use Rattle.js_reading.specs.declared.form.Form.TheVariants as form;
-ghost use Rattle.js_build.specs.Callables.{braces_of, braces_view};
 ghost use Rattle.js_build.specs.Lists as lists;
 ghost use Rattle.js_build.specs.View.{plain_piece, plain_pieces, Makes, MakesStmt};
 
+use crate::callables::braces;
 use crate::lists::{MadeCase, MadeCases};
-use crate::make::{above, statement};
+use crate::make::{above, nothing, statement};
 use crate::piece::discard;
 use crate::place::through;
 use crate::queue::Pieces;
-use crate::shapes::take_expression;
-use crate::{Body, Operand, Piece, Statements};
+use crate::shapes::{take_expression, take_place};
+use crate::{Operand, Piece, Statements};
 use items::{Boxed, Items, Memory};
 use js_tree::{Case, Expr, Loc, Stmt, StmtNode};
 use std::alloc::Global;
 
-/// The statements of a clause, and where it ends.
-fn clause_end(pieces: &mut Pieces) -> Option<(Statements, Loc)>
-    ensures read { braces_view result (plain_pieces pieces.new) ≡ braces_of (plain_pieces pieces.old) }
-    ensures shorter { length pieces.new ≤ length pieces.old }
-{
-    let statements = match pieces.next() {
-        Some(Piece::Statements(statements)) => statements,
-        other => {
-            discard(other);
-            return None;
-        }
-    };
-    match pieces.next() {
-        Some(Piece::Place(closing)) => Some((statements, closing)),
-        other => {
-            discard(other);
-            None
-        }
-    }
-}
-
 /// A clause, after the place of its first word.
-#[tactic(auto, using(crate::proofs::ListLaws::clause_tested))]
+#[tactic(auto, using(crate::proofs::ListLaws::clause_rules))]
 fn clause(pieces: &mut Pieces) -> Option<(Option<Operand>, (Statements, Loc))>
     ensures read { lists.clause_view result (plain_pieces pieces.new) ≡ lists.clause_of (plain_pieces pieces.old) }
     ensures shorter { length pieces.new ≤ length pieces.old }
 {
     match pieces.next() {
-        Some(Piece::Expression(test)) => match clause_end(pieces) {
+        Some(Piece::Expression(test)) => match braces(pieces) {
             None => None,
             Some(ended) => Some((Some(test), ended)),
         },
-        Some(Piece::Statements(statements)) => match pieces.next() {
-            Some(Piece::Place(closing)) => Some((None, (statements, closing))),
-            other => {
-                discard(other);
-                None
-            }
+        Some(Piece::Statements(statements)) => match take_place(pieces) {
+            None => None,
+            Some(closing) => Some((None, (statements, closing))),
         },
         other => {
             discard(other);
@@ -190,7 +166,12 @@ fn cases(alloc: Global, pieces: &mut Pieces) -> Result<Option<MadeCases>, Memory
 
 /// A `switch`.
 #[tactic(auto, using(js_tree::proofs::Equations::stmt_switch))]
-fn switch_node(alloc: Global, place: Loc, value: Operand, cases: MadeCases) -> Result<Body, Memory>
+fn switch_node(
+    alloc: Global,
+    place: Loc,
+    value: Operand,
+    cases: MadeCases,
+) -> Result<Option<Piece>, Memory>
     ensures { MakesStmt result (tree.Switch (Some place) (plain_expr value.tree) (plain_cases cases.items)) }
 {
     let parts = value.height.max(cases.height);
@@ -204,10 +185,10 @@ pub(crate) fn switch(alloc: Global, place: Loc, mut pieces: Pieces) -> Result<Op
     ensures { Makes result (build form.Switch place (plain_pieces pieces)) }
 {
     match take_expression(&mut pieces) {
-        None => Ok(None),
+        None => nothing(),
         Some(value) => match cases(alloc, &mut pieces)? {
-            None => Ok(None),
-            Some(cases) => Ok(Some(Piece::Statement(switch_node(alloc, place, value, cases)?))),
+            None => nothing(),
+            Some(cases) => switch_node(alloc, place, value, cases),
         },
     }
 }

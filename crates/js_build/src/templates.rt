@@ -9,7 +9,7 @@ ghost use Rattle.js_build.specs.TemplatePieces as spec;
 ghost use Rattle.js_build.specs.View.{plain_piece, plain_pieces, Makes, MakesExpr};
 
 use crate::lists::{MadePart, MadeParts};
-use crate::make::expression;
+use crate::make::{expression, nothing};
 use crate::piece::discard;
 use crate::queue::Pieces;
 use crate::{Operand, Piece};
@@ -89,7 +89,7 @@ fn template_node(
     place: Loc,
     first: Spelled,
     parts: MadeParts,
-) -> Result<Operand, Memory>
+) -> Result<Option<Piece>, Memory>
     ensures { MakesExpr result 22 (tree.TemplateLiteral (Some place) first (plain_template_parts parts.items)) }
 {
     let height = parts.height;
@@ -107,10 +107,10 @@ pub(crate) fn template(
     ensures { Makes result (build form.Template place (plain_pieces pieces)) }
 {
     match take_text(&mut pieces) {
-        None => Ok(None),
+        None => nothing(),
         Some(first) => match parts(alloc, &mut pieces)? {
-            None => Ok(None),
-            Some(parts) => Ok(Some(Piece::Expression(template_node(alloc, place, first, parts)?))),
+            None => nothing(),
+            Some(parts) => template_node(alloc, place, first, parts),
         },
     }
 }

@@ -5,14 +5,15 @@ ghost use Rattle.js_tree.specs.Tree.{plain_catch, plain_pattern_if, plain_stmts}
 ghost use Rattle.js_reading.specs.Makes.{build};
 ghost use Rattle.js_reading.specs.Slots.{TheStmts};
 ghost use Rattle.js_reading.specs.declared.form.Form.TheVariants as form;
-ghost use Rattle.js_build.specs.Tries.{caught, handled_of};
+ghost use Rattle.js_build.specs.Tries.{caught, handled_of, last_of, last_view};
 ghost use Rattle.js_build.specs.View.{plain_pieces, Makes, MakesStmt};
 
-use crate::make::statement;
+use crate::make::{nothing, statement};
 use crate::names::bound;
 use crate::piece::discard;
 use crate::queue::Pieces;
-use crate::{Body, Piece, Statements};
+use crate::shapes::{is_over, take_statements};
+use crate::{Piece, Statements};
 use items::{Boxed, Items, Memory};
 use js_tree::{Catch, Loc, Name, Pattern, Stmt, StmtNode};
 use std::alloc::Global;
@@ -56,7 +57,7 @@ fn finally_node(
     place: Loc,
     block: Statements,
     last: Statements,
-) -> Result<Body, Memory>
+) -> Result<Option<Piece>, Memory>
     ensures { MakesStmt result (tree.TryFinally (Some place) (plain_stmts block.items) (plain_stmts last.items)) }
 {
     let parts = block.height.max(last.height);
@@ -72,7 +73,7 @@ fn catch_node(
     block: Statements,
     name: Option<(Name, Loc)>,
     statements: Statements,
-) -> Result<Body, Memory>
+) -> Result<Option<Piece>, Memory>
     ensures { MakesStmt result (tree.TryCatch (Some place) (plain_stmts block.items) (tree.MakeCatch (caught name) (plain_stmts statements.items))) }
 {
     let height = parameter_height(&name).max(statements.height);
@@ -91,7 +92,7 @@ fn both_node(
     name: Option<(Name, Loc)>,
     statements: Statements,
     last: Statements,
-) -> Result<Body, Memory>
+) -> Result<Option<Piece>, Memory>
     ensures { MakesStmt result (tree.TryCatchFinally (Some place) (plain_stmts block.items) (tree.MakeCatch (caught name) (plain_stmts statements.items)) (plain_stmts last.items)) }
 {
     let height = parameter_height(&name).max(statements.height);
@@ -101,7 +102,23 @@ fn both_node(
     statement(alloc, place, node, parts)
 }
 
+/// The statements of `finally`, if there is one, and nothing else.
+fn last_block(mut pieces: Pieces) -> Option<Option<Statements>>
+    ensures { last_view result ≡ last_of (plain_pieces pieces) }
+{
+    let last = match pieces.next() {
+        Some(Piece::Missing) => None,
+        Some(Piece::Statements(last)) => Some(last),
+        other => {
+            discard(other);
+            return None;
+        }
+    };
+    if is_over(pieces) { Some(last) } else { None }
+}
+
 /// `try`, after the parameter of its `catch`.
+#[tactic(auto, using(crate::proofs::TryForms::handled_form))]
 fn handled(
     alloc: Global,
     place: Loc,
@@ -111,33 +128,13 @@ fn handled(
 ) -> Result<Option<Piece>, Memory>
     ensures { Makes result (handled_of place (plain_stmts block.items) (caught name) (plain_pieces pieces)) }
 {
-    let statements = match pieces.next() {
-        Some(Piece::Statements(statements)) => statements,
-        other => {
-            discard(other);
-            return Ok(None);
-        }
-    };
-    let last = match pieces.next() {
-        Some(Piece::Missing) => None,
-        Some(Piece::Statements(last)) => Some(last),
-        other => {
-            discard(other);
-            return Ok(None);
-        }
-    };
-    match pieces.next() {
-        None => {}
-        other => {
-            discard(other);
-            return Ok(None);
-        }
-    }
-    match last {
-        None => Ok(Some(Piece::Statement(catch_node(alloc, place, block, name, statements)?))),
-        Some(last) => Ok(Some(Piece::Statement(both_node(
-            alloc, place, block, name, statements, last,
-        )?))),
+    match take_statements(&mut pieces) {
+        None => nothing(),
+        Some(statements) => match last_block(pieces) {
+            None => nothing(),
+            Some(None) => catch_node(alloc, place, block, name, statements),
+            Some(Some(last)) => both_node(alloc, place, block, name, statements, last),
+        },
     }
 }
 
@@ -152,13 +149,13 @@ fn after_block(
     ensures { Makes result (build form.Try place (TheStmts (plain_stmts block.items) ∷ plain_pieces pieces)) }
 {
     match pieces.next() {
-        Some(Piece::Statements(last)) => match pieces.next() {
-            None => Ok(Some(Piece::Statement(finally_node(alloc, place, block, last)?))),
-            other => {
-                discard(other);
-                Ok(None)
+        Some(Piece::Statements(last)) => {
+            if is_over(pieces) {
+                finally_node(alloc, place, block, last)
+            } else {
+                nothing()
             }
-        },
+        }
         Some(Piece::Missing) => handled(alloc, place, block, None, pieces),
         Some(Piece::Word(name, at)) => handled(alloc, place, block, Some((name, at)), pieces),
         other => {
@@ -169,6 +166,7 @@ fn after_block(
 }
 
 /// `try` (14.15).
+#[tactic(auto, using(crate::proofs::TryForms::try_form))]
 pub(crate) fn try_statement(
     alloc: Global,
     place: Loc,
@@ -176,11 +174,8 @@ pub(crate) fn try_statement(
 ) -> Result<Option<Piece>, Memory>
     ensures { Makes result (build form.Try place (plain_pieces pieces)) }
 {
-    match pieces.next() {
-        Some(Piece::Statements(block)) => after_block(alloc, place, block, pieces),
-        other => {
-            discard(other);
-            Ok(None)
-        }
+    match take_statements(&mut pieces) {
+        None => nothing(),
+        Some(block) => after_block(alloc, place, block, pieces),
     }
 }

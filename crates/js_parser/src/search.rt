@@ -26,6 +26,8 @@ pub(crate) struct Seen {
     pub(crate) sight: Sight,
     /// What is found with the token after a group.
     group: Find,
+    /// A pattern among the parameters of an arrow.
+    parameter: Find,
     /// The name whose arguments are whole.
     callee: Option<Loc>,
 }
@@ -37,6 +39,7 @@ pub(crate) fn see(reader: &Reader, token: Token<'_>) -> Seen
     Seen {
         sight: reader.sight(),
         group: reader.group(token),
+        parameter: reader.parameter(token),
         callee: reader.callee(),
     }
 }
@@ -55,7 +58,8 @@ pub(crate) fn found_read(
     Ok(
         seen.group
             .or(this_outside(outside, token))
-            .or(recent.proto_back(alloc, token)?),
+            .or(recent.proto_back(alloc, token)?)
+            .or(seen.parameter),
     )
 }
 
@@ -75,7 +79,8 @@ fn found_refused(
             .or(recent.three_back(alloc, token)?)
             .or(seen.group)
             .or(recent.called(seen.callee, token))
-            .or(recent.proto_back(alloc, token)?),
+            .or(recent.proto_back(alloc, token)?)
+            .or(seen.parameter),
     )
 }
 

@@ -222,7 +222,7 @@ from_argued {ts = ts} m t us a apart k is_arrow = by_tokens a.spelled a.are a.go
           split = ap (λ x. x ++ t ∷ us) are ∙ append_assoc a.before (tok ∷ opening ∷ (tx ++ closing_ ∷ [])) (t ∷ us) ∙ ap (λ x. a.before ++ tok ∷ opening ∷ x) (append_assoc tx (closing_ ∷ []) (t ∷ us));
           ran = a.ran;
           begins = Unsupported.at_once (Unsupported.async_arguments a.top a.below opening closing_ t us (goes tok (opening ∷ (tx ++ closing_ ∷ [])) refl) a.takes b.0 d.0 (off opening.line_terminator_before d.1) dxs (is_same (T.Punctuator P.CloseParenthesis) closing_.kind is_closing) is_arrow);
-          there = at;
+          there = ap (λ (y : Loc). y.start) at;
         }
 
 by_callee : {ts : List Token} {turns : Turns} {c : Config} (t : Token) (us : List Token) (x : Unsupported × Loc) (o : Option Loc) → Searched ts turns c → Apart ts → ((m : Loc) → o ≡ Some m → Argued m ts) → arrow_after turns o t ≡ Some x → BegunAt (ts ++ t ∷ us) x

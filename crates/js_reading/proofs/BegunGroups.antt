@@ -34,7 +34,7 @@ side_begins : (u vs us : List Token) (b t : Token) (i : ℕ) (e : Expr) (l w : L
 side_begins u vs us b t i e l w f fs x led at de h = holds_of (BegunAt ((u ++ b ∷ vs) ++ t ∷ us)) (left_sides i e w f t) x each h
   where
     begun : (k : Unsupported) → Begins k led.0 (b ∷ (vs ++ t ∷ us)) → BegunAt ((u ++ b ∷ vs) ++ t ∷ us) (k, w)
-    begun k d = record { before = u; first = b; others = vs ++ t ∷ us; place = led.0; split = append_assoc u (b ∷ vs) (t ∷ us); ran = led.1; begins = d; there = at }
+    begun k d = record { before = u; first = b; others = vs ++ t ∷ us; place = led.0; split = append_assoc u (b ∷ vs) (t ∷ us); ran = led.1; begins = d; there = ap (λ (y : Loc). y.start) at }
 
     each : EachOf (BegunAt ((u ++ b ∷ vs) ++ t ∷ us)) (left_sides i e w f t)
     each =

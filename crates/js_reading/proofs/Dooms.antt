@@ -1,5 +1,5 @@
 -- Where the parts of an open production are none that it may have, no run from there ends.
-use Rattle.std.proofs.Common.{◌≡◌, ℕ, ◌⊎◌, inl, inr, true, false, not, ◌&&◌, List, [], ◌∷◌, ◌++◌, Option, Some, None, sym, ap, subst, ◌∙◌, append_assoc, append-nil}
+use Rattle.std.proofs.Common.{◌≡◌, ℕ, ◌⊎◌, inl, inr, Bool, true, false, not, ◌&&◌, List, [], ◌∷◌, ◌++◌, Option, Some, None, if◌then◌else◌, refl, sym, ap, subst, ◌∙◌, append_assoc, append-nil}
 use Rattle.std.specs.Prelude.{nat_le}
 use Rattle.js_tree.specs.declared.place.Loc.{Loc}
 use Rattle.js_tree.specs.Plain.{Expr, no_expr, push_exprs, Stmt, no_stmt, push_stmts}
@@ -8,13 +8,13 @@ use Rattle.js_reading.specs.Level.{assignment}
 use Rattle.js_text.specs.declared.punctuator.Punctuator.TheVariants as P
 use Rattle.js_reading.specs.Spans.{through}
 use Rattle.js_reading.specs.Kinds.{is_kind}
-use Rattle.js_reading.specs.Slots.{Slot, Sign, Text, Expr_, Stmt_, Stmts_, Items_, Place_, By, Piece, AnExpr, AStmt, TheStmts, TheExprs, APlace, Form}
+use Rattle.js_reading.specs.Slots.{Level, Slot, Sign, Text, Expr_, Stmt_, Stmts_, Items_, Place_, By, Piece, AnExpr, AStmt, TheStmts, TheExprs, APlace, Missing, Go, Form}
 use Rattle.js_reading.specs.Slots as slot
-use Rattle.js_reading.specs.Productions.{primary, is_mark, piece_of, slots, prefix, statement, join, wants, after_first}
-use Rattle.js_reading.specs.Choices.{branch}
+use Rattle.js_reading.specs.Productions.{primary, mark, is_mark, piece_of, slots, prefix, statement, join, wants, after_first}
+use Rattle.js_reading.specs.Choices.{branch, either}
 use Rattle.js_reading.specs.Makes.{build, is_declaration}
 use Rattle.js_reading.specs.Sentences.{leaf_of, least, fits, continues, closes}
-use Rattle.js_reading.specs.Turns.{place, begun_level, leads, declares, listing, Frame, InForm, InExpression, InStmts, InFile, InItems, Config, Due, Have, Item, Start, Finished, enter, begin_form, begin_leaf, want_by, want, begin_by, begin, texted, take, pass, wanted, banned, take_second, shift, is_name, leave, left, have, item, turn, run, then_run}
+use Rattle.js_reading.specs.Turns.{place, begun_level, leads, declares, listing, Frame, InForm, InExpression, InStmts, InFile, InItems, Config, Due, Have, Item, Start, Finished, enter, begin_form, begin_leaf, want_by, want, begin_by, begin, texted, take, choose, pass, wanted, banned, take_second, shift, is_name, leave, left, have, item, turn, run, then_run}
 use Rattle.js_reading.proofs.Endless
 use Rattle.js_reading.proofs.Endless.{Endless, LostIn}
 use Rattle.js_reading.proofs.Runs.{nowhere, by_bool, by_branch}
@@ -23,9 +23,20 @@ use Rattle.js_reading.proofs.Ways.{lands}
 abbrev pub DoomedForm : Form → List Piece → Type 0
 DoomedForm f ps = (l : Loc) (qs : List Piece) → build f l (ps ++ qs) ≡ None
 
--- the same once an expression that is due and its place stand there
+-- the same once an arrow's body begins: any part, but a missing one
+abbrev pub is_missing : Piece → Bool
+is_missing Missing = true
+is_missing p = false
+
+abbrev pub BodyDoomed : Form → List Piece → Type 0
+BodyDoomed f ps = (p : Piece) → is_missing p ≡ false → DoomedForm f (ps ++ p ∷ [])
+
+-- the same once what is due stands there: an expression and its place, or an arrow's body
 abbrev pub Half : Form → List Slot → List Piece → Type 0
 Half f (Expr_ n ∷ Place_ ∷ ss) ps = (i : ℕ) (e : Expr) (l : Loc) → DoomedForm f (ps ++ AnExpr i e ∷ APlace l ∷ [])
+Half f (Expr_ n ∷ []) ps = BodyDoomed f ps
+Half f (Place_ ∷ ss) ps = BodyDoomed f ps
+Half f (By slot.ConciseBody ∷ []) ps = BodyDoomed f ps
 Half f ss ps = ⊥
 
 abbrev pub DoomedIn : List Frame → Type 0
@@ -120,6 +131,7 @@ leave_doomed (InForm f w (Expr_ n) ss ps) i e l fs t d go (inr x) h = by_bool (f
 leave_doomed (InForm f w (Expr_ n) (Place_ ∷ ss) ps) i e l fs t d go (inl x) h =
     by_bool (fits n i e) _ _ d
     (λ c q. pass_doomed f w ss ((ps ++ AnExpr i e ∷ []) ++ APlace l ∷ []) l fs t d go (inl (subst (λ y. DoomedForm f y) (sym (append_assoc ps (AnExpr i e ∷ []) (APlace l ∷ []))) (x i e l))) q) (λ c q. nowhere q) h
+leave_doomed (InForm f w (Expr_ n) [] ps) i e l fs t d go (inl x) h = by_bool (fits n i e) _ _ d (λ c q. pass_doomed f w [] (ps ++ AnExpr i e ∷ []) l fs t d go (inl (x (AnExpr i e) refl)) q) (λ c q. nowhere q) h
 leave_doomed (InForm f w (Expr_ n) ss ps) i e l fs t d go (inl x) h = absurd x
 leave_doomed (InExpression w) i e l fs t d go x h =
     by_bool (is_mark P.Colon t && (is_name e && nat_le primary i)) _ _ d (λ c q. lands Doomed q (inr (inr x))) (λ c q. pass_doomed slot.Expression w (By slot.Semicolon ∷ []) (AnExpr i e ∷ []) l fs t d go (inr x) q) h
@@ -149,9 +161,24 @@ item_doomed : (fs : List Frame) (t : Token) (d : Config) → DoomedIn fs → ite
 item_doomed (InItems f w p ss ps xs ∷ fs) t d x h = by_bool (is_mark p t) _ _ d (λ c q. lands Doomed q (inr (more f ps (TheExprs true xs ∷ []) x))) (λ c q. want_doomed t (InItems f w p ss ps xs ∷ fs) d x q) h
 item_doomed fs t d x h = nowhere h
 
+-- a body begins
+body_doomed : (f : Form) (w : Loc) (ps : List Piece) (l : Loc) (fs : List Frame) (t : Token) (d : Config) → BodyDoomed f ps → turn (Due f w (By slot.ConciseBody ∷ []) ps l fs) t ≡ Some d → Doomed d
+body_doomed f w ps l fs t d x h = by_brace (is_mark P.OpenBrace t) refl h
+  where
+    same : BodyDoomed f (ps ++ [])
+    same = subst (BodyDoomed f) (sym (append-nil ps)) x
+
+    by_brace : (b : Bool) → is_mark P.OpenBrace t ≡ b → choose (either b (Go [] (mark P.OpenBrace) (Place_ ∷ Stmts_ ∷ mark P.CloseBrace ∷ Place_ ∷ [])) (Go [] (Expr_ (Level assignment)) []))
+        (λ qs. pass f w [] (ps ++ qs) l fs t (λ p m. have fs p m t)) (λ qs s rs. if leads (place fs) slot.ConciseBody then take f w s (rs ++ []) (ps ++ qs) fs t else None) ≡ Some d → Doomed d
+    by_brace true is q = by_bool (is_mark P.OpenBrace t) _ _ d (λ c g. lands Doomed g (inl same)) (λ c g. nowhere g) q
+    by_brace false is q = want_doomed t (InForm f w (Expr_ (Level assignment)) [] (ps ++ []) ∷ fs) d (inl same) q
+
 turn_doomed : (c d : Config) (t : Token) → Doomed c → turn c t ≡ Some d → Doomed d
 turn_doomed (Due f w ss ps l fs) d t (inr x) h = pass_doomed f w ss ps l fs t d (have_doomed fs t d) x h
 turn_doomed (Due f w (Expr_ n ∷ Place_ ∷ ss) ps l fs) d t (inl x) h = want_doomed t (InForm f w (Expr_ n) (Place_ ∷ ss) ps ∷ fs) d (inl x) h
+turn_doomed (Due f w (Expr_ n ∷ []) ps l fs) d t (inl x) h = want_doomed t (InForm f w (Expr_ n) [] ps ∷ fs) d (inl x) h
+turn_doomed (Due f w (Place_ ∷ ss) ps l fs) d t (inl x) h = pass_doomed f w ss (ps ++ APlace l ∷ []) l fs t d (have_doomed fs t d) (inl (x (APlace l) refl)) h
+turn_doomed (Due f w (By slot.ConciseBody ∷ []) ps l fs) d t (inl x) h = body_doomed f w ps l fs t d x h
 turn_doomed (Due f w ss ps l fs) d t (inl x) h = absurd x
 turn_doomed (Have p l fs) d t x h = have_doomed fs t d x (Some p) l h
 turn_doomed (Item fs) d t x h = item_doomed fs t d x h

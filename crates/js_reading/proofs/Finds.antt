@@ -1,5 +1,5 @@
 -- What is found at a turn, or ahead of a token that is refused, begins a form where it is said.
-use Rattle.std.proofs.Common.{◌≡◌, List, [], ◌∷◌, ◌++◌, Some, refl, ◌∙◌, append_assoc}
+use Rattle.std.proofs.Common.{◌≡◌, List, [], ◌∷◌, ◌++◌, Some, refl, ap, ◌∙◌, append_assoc}
 use Rattle.js_tree.specs.declared.place.Loc.{Loc}
 use Rattle.js_text.specs.Token.{Token}
 use Rattle.js_reading.specs.Turns.{Config, Start, run}
@@ -8,13 +8,14 @@ use Rattle.js_reading.specs.Found.{Turns, two_back, proto_back, three_back, find
 use Rattle.js_reading.proofs.Begun.{EachOf, none_left, where_found, holds_of, BeginsThere, one_begins, two_begins, three_begins, proto_begun, this_found}
 use Rattle.js_reading.proofs.BegunGroups.{group_begins}
 use Rattle.js_reading.proofs.BegunCalls.{called_begins}
+use Rattle.js_reading.proofs.BegunParameters.{parameter_begins}
 use Rattle.js_reading.proofs.Found.{searched_run}
 
 begun_here : (ts : List Token) (c : Config) (t : Token) (us : List Token) (x : Unsupported × Loc) → run Start ts ≡ Some c → BeginsThere c t us x → BegunAt (ts ++ t ∷ us) x
-begun_here ts c t us x ran b = record { before = ts; first = t; others = us; place = c; split = refl; ran = ran; begins = b.0; there = b.1 }
+begun_here ts c t us x ran b = record { before = ts; first = t; others = us; place = c; split = refl; ran = ran; begins = b.0; there = ap (λ (y : Loc). y.start) b.1 }
 
 begun_back : (ts : List Token) (c : Config) (u t : Token) (us : List Token) (x : Unsupported × Loc) → run Start ts ≡ Some c → BeginsThere c u (t ∷ us) x → BegunAt ((ts ++ u ∷ []) ++ t ∷ us) x
-begun_back ts c u t us x ran b = record { before = ts; first = u; others = t ∷ us; place = c; split = append_assoc ts (u ∷ []) (t ∷ us); ran = ran; begins = b.0; there = b.1 }
+begun_back ts c u t us x ran b = record { before = ts; first = u; others = t ∷ us; place = c; split = append_assoc ts (u ∷ []) (t ∷ us); ran = ran; begins = b.0; there = ap (λ (y : Loc). y.start) b.1 }
 
 two_found : {ts : List Token} {turns : Turns} {c : Config} (t : Token) (us : List Token) (x : Unsupported × Loc) → Searched ts turns c → two_back turns t ≡ Some x → BegunAt (ts ++ t ∷ us) x
 two_found t us x not_begun h = absurd cc
@@ -37,7 +38,7 @@ three_found t us x (searched u (searched {ts = ts} {c = c} v s none_v go_v) none
       split = append_assoc (ts ++ v ∷ []) (u ∷ []) (t ∷ us) ∙ append_assoc ts (v ∷ []) (u ∷ t ∷ us);
       ran = searched_run s;
       begins = b.0;
-      there = b.1;
+      there = ap (λ (y : Loc). y.start) b.1;
     }
 
 pub found_begins : {ts : List Token} {turns : Turns} {c : Config} (t : Token) (us : List Token) (x : Unsupported × Loc) → Searched ts turns c → Apart ts → found turns c t ≡ Some x → BegunAt (ts ++ t ∷ us) x
@@ -52,7 +53,8 @@ found_begins {ts = ts} {turns = turns} {c = c} t us x s apart h = holds_of (Begu
         (where_found (λ y q. begun_here ts c t us y (searched_run s) (this_found ts c t us y (searched_run s) q))
         (where_found (λ y q. called_begins c t us y s apart q)
         (where_found (λ y q. proto_found t us y s q)
-        none_left))))))
+        (where_found (λ y q. parameter_begins ts c t us y (searched_run s) q)
+        none_left)))))))
 
 ahead_three : {ts : List Token} {turns : Turns} {c : Config} (r n : Token) (us : List Token) (x : Unsupported × Loc) → Searched ts turns c → three_ahead c r n us ≡ Some x → BegunAt (ts ++ r ∷ n ∷ us) x
 ahead_three r n [] x s h = absurd cc

@@ -6,10 +6,10 @@ use Rattle.std.proofs.lemmas.Bool.{true≢false, eq-eqb}
 use Rattle.js_tree.specs.declared.place.Loc.{Loc}
 use Rattle.js_text.specs.Token.{Token}
 use Rattle.js_reading.specs.Turns.{Config, Start, turn, then_run, run}
-use Rattle.js_reading.specs.Found.{one, two, proto_key, proto_back, three, group, outside, opens_call, starts, asyncs, called, Turns, two_back, three_back, finds, found, three_over, aheads, ahead, Searched, not_begun, searched, Clean}
+use Rattle.js_reading.specs.Found.{one, two, proto_key, proto_back, three, group, parameter, outside, opens_call, starts, asyncs, called, Turns, two_back, three_back, finds, found, three_over, aheads, ahead, Searched, not_begun, searched, Clean}
 use Rattle.js_reading.proofs.Runs.{run_append, stopped, nowhere}
 use Rattle.js_reading.proofs.Shapes.{both_true}
-use Rattle.js_reading.proofs.Whole.{off_at, Whole, of_one, of_two, of_proto, of_three, of_group, of_this, of_call, parts}
+use Rattle.js_reading.proofs.Whole.{off_at, Whole, of_one, of_two, of_proto, of_three, of_group, of_parameter, of_this, of_call, parts}
 
 -- ---- lists, from their end
 
@@ -145,6 +145,9 @@ missed {turns = turns} {c = c} vs _ t s are ran (of_three {t = u} {name = v} tol
 missed {turns = turns} {c = c} vs _ t s are ran (of_group {ts = us} r told) h =
     let q = same_place (sym (ap (λ x. run Start x) are) ∙ searched_run s) (after_run vs us ran ∙ r) in
     told (subst (λ x. group x t ≡ None) q (off_at (finds turns c t) 3 h))
+missed {turns = turns} {c = c} vs _ t s are ran (of_parameter {ts = us} r told) h =
+    let q = same_place (sym (ap (λ x. run Start x) are) ∙ searched_run s) (after_run vs us ran ∙ r) in
+    told (subst (λ x. parameter x t ≡ None) q (off_at (finds turns c t) 7 h))
 missed {turns = turns} {c = c} vs _ t s are ran (of_this told) h =
     let q = same_place (sym (ap (λ x. run Start x) (are ∙ append-nil vs)) ∙ searched_run s) ran in
     told (subst (λ x. outside (turn x t) t ≡ None) q (off_at (finds turns c t) 4 h))
@@ -236,6 +239,7 @@ passed {ts = ts} {turns = turns} {c = c} r vs _ mid ws after t s refused are is 
     by_length (m ∷ []) (w ∷ ws) a q k = no_cons (tail_same (tail_same q))
     by_length (m ∷ n ∷ mid) ws a q k = no_two mid ws r (tail_same (tail_same q))
 passed {c = c} r vs _ mid ws after t s refused are is ran (of_group {ts = us} g told) h = nowhere (sym (cut r vs mid ws us s refused are is) ∙ (after_run vs us ran ∙ g))
+passed {c = c} r vs _ mid ws after t s refused are is ran (of_parameter {ts = us} g told) h = nowhere (sym (cut r vs mid ws us s refused are is) ∙ (after_run vs us ran ∙ g))
 passed {c = c} r vs _ mid ws after t s refused are is ran (of_call {t = u} {opening = v} {ts = us} g on told) h = nowhere (sym (cut r vs mid ws (u ∷ v ∷ us) s refused are is) ∙ (after_run vs (u ∷ v ∷ us) ran ∙ g))
 
 -- it is reached only from what was read

@@ -22,6 +22,7 @@ use Rattle.js_reading.specs.Kinds.{is_kind}
 use Rattle.js_reading.specs.Sentences
 use Rattle.js_reading.specs.Sentences.{named, regular_expression, body_and_flags, of_word, leaf_of, least, fits, continues, Spells, SpellsSlots, SpellsItems}
 use Rattle.js_reading.specs.Turns.{leads, place, begun_level, Frame, InForm, Config, Due, want, want_by, begin_form, take, choose, pass, wanted, have, texted, enter, run, then_run}
+use Rattle.js_reading.specs.Unsupported.{is_parenthesized_target, is_literal_pattern}
 use Rattle.js_reading.specs.Found.{group, left_side, on_its_line}
 use Rattle.js_reading.proofs.Allowed.{UpTo, up_to, begins_first}
 use Rattle.js_reading.proofs.Branches.{branches, each, among}
@@ -38,6 +39,15 @@ is_group (tree.Parenthesized l e) = true
 is_group (tree.ArrayLiteral l xs) = true
 is_group (tree.ObjectLiteral l ps) = true
 is_group e = false
+
+pub target_group : (e : Expr) → is_parenthesized_target e ≡ true → is_group e ≡ true
+target_group (tree.Parenthesized l e) h = refl
+target_group e h = absurd (true≢false (sym h))
+
+pub literal_group : (e : Expr) → is_literal_pattern e ≡ true → is_group e ≡ true
+literal_group (tree.ArrayLiteral l xs) h = refl
+literal_group (tree.ObjectLiteral l ps) h = refl
+literal_group e h = absurd (true≢false (sym h))
 
 abbrev pub groups : Form → Bool
 groups slot.Parentheses = true
@@ -302,7 +312,7 @@ lone_either false x y h k = k
 lone_word : (w : List ℕ) (k : Kind) (l : Loc) → LoneExpr (of_word w k l)
 lone_word w k l = lone_either (bytes_eq w (codes "this")) _ _ refl (lone_either (bytes_eq w (codes "null")) _ _ refl (lone_either (bytes_eq w (codes "true")) _ _ refl (lone_either (bytes_eq w (codes "false")) _ _ refl (lone_named l (bound_name k)))))
 
-lone_leaf : (k : Kind) (l : Loc) → LoneExpr (leaf_of k l)
+pub lone_leaf : (k : Kind) (l : Loc) → LoneExpr (leaf_of k l)
 lone_leaf (T.Word w) l = lone_word w (T.Word w) l
 lone_leaf (T.EscapedWord w) l = lone_named l (bound_name (T.EscapedWord w))
 lone_leaf (T.Numeral w) l = refl
@@ -327,7 +337,7 @@ abbrev pub first_missing : List Piece → Bool
 first_missing (Missing ∷ ps) = true
 first_missing ps = false
 
-join_lone : (t : Token) (g : Form) → join t ≡ Some g → groups g ≡ false
+pub join_lone : (t : Token) (g : Form) → join t ≡ Some g → groups g ≡ false
 join_lone t g h = off (groups g) (find_all (λ f. not (groups f)) after_first joins t g refl (join_found t g h)).0
   where
     off : (x : Bool) → not x ≡ true → x ≡ false
@@ -365,10 +375,10 @@ body_first (Sentences.chosen {qs = qs} {s = s} {rs = rs} {ps = ps} {l = l} {m = 
     (λ a b c. subst (λ x. first_missing (x ++ ps) ≡ false) a (brace_first (subst (λ x. SpellsSlots x ps l m us next) (ap (λ y. y ∷ (rs ++ [])) (sym b) ∙ ap (λ y. mark P.OpenBrace ∷ (y ++ [])) (sym c)) d)))
     (λ a b c. subst (λ x. first_missing (x ++ ps) ≡ false) a (expr_first (subst (λ x. SpellsSlots x ps l m us next) (ap (λ y. y ∷ (rs ++ [])) (sym b)) d))) e
 
-arrow_first : {ps : List Piece} {l m : Loc} {us : List Token} {next : Token} {k : Kind} → SpellsSlots (Sign k ∷ By slot.ConciseBody ∷ []) ps l m us next → first_missing ps ≡ false
+pub arrow_first : {ps : List Piece} {l m : Loc} {us : List Token} {next : Token} {k : Kind} → SpellsSlots (Sign k ∷ By slot.ConciseBody ∷ []) ps l m us next → first_missing ps ≡ false
 arrow_first (Sentences.sign t is d) = body_first d
 
-arrow_or_not : {A : Type 0} (b : Bool) {qs : List Piece} {s : Slot} {rs : List Slot} → ([] ≡ qs → mark P.Arrow ≡ s → By slot.ConciseBody ∷ [] ≡ rs → A) → either b (Go [] (mark P.Arrow) (By slot.ConciseBody ∷ [])) (Pass (Missing ∷ [])) ≡ Go qs s rs → A
+pub arrow_or_not : {A : Type 0} (b : Bool) {qs : List Piece} {s : Slot} {rs : List Slot} → ([] ≡ qs → mark P.Arrow ≡ s → By slot.ConciseBody ∷ [] ≡ rs → A) → either b (Go [] (mark P.Arrow) (By slot.ConciseBody ∷ [])) (Pass (Missing ∷ [])) ≡ Go qs s rs → A
 arrow_or_not true f h = f (cc) (cc) (cc)
 arrow_or_not false f h = absurd cc
 

@@ -94,7 +94,7 @@ left_out text end ts x d b none =
     record {
       place = token_place goal.Div c.0;
       within = onto_characters o;
-      starts = sym (first_starts c.2) ∙ ap (λ (l : Loc). l.start) b.there;
+      starts = sym (first_starts c.2) ∙ b.there;
       left_out = record {
         reached = record { tokens = b.before; place = c.0; lexed = c.1; there = refl };
         place = b.place;

@@ -41,12 +41,14 @@ pub mod OuterMade
 pub mod OuterKept
 pub mod Refusing
 pub mod Groups
+pub mod Parameters
 pub mod Whole
 pub mod Found
 pub mod Begun
 pub mod BegunGroups
 pub mod Callees
 pub mod BegunCalls
+pub mod BegunParameters
 pub mod Finds
 pub mod Shown
 pub mod Taken

@@ -16,6 +16,7 @@ use Rattle.js_reading.specs.Sentences.{grip, bans, fits, closes, Spells, SpellsS
 use Rattle.js_reading.specs.Turns.{place, leads, Frame, Config, Due, take_second, pass, shift, have}
 use Rattle.js_reading.specs.Open.{past, in_joined}
 use Rattle.js_reading.proofs.Runs.{nowhere, by_bool, by_branch}
+use Rattle.js_reading.proofs.Makings.{is_first}
 use Rattle.js_reading.proofs.KindsLemmas.{kind_is}
 use Rattle.js_reading.proofs.Shapes.{find_all, join_found}
 use Rattle.js_reading.proofs.OnlyStatements.{NoExpr, no_expr_made}
@@ -50,12 +51,15 @@ pass_sound f w (s ∷ ss) ps l fs u us b t d go fr st came kd tail ends h = take
 
 -- ---- an expression that goes on with a token
 
+off : (x : Bool) → not x ≡ true → x ≡ false
+off false q = refl
+off true q = absurd (true≢false (sym q))
+
 unbracketed : (t : Token) (g : Form) → join t ≡ Some g → bracketed g ≡ false
 unbracketed t g h = off (bracketed g) (find_all (λ f. not (bracketed f)) after_first joins t g refl (join_found t g h)).0
-  where
-    off : (x : Bool) → not x ≡ true → x ≡ false
-    off false q = refl
-    off true q = absurd (true≢false (sym q))
+
+not_first : (t : Token) (g : Form) → join t ≡ Some g → is_first g ≡ false
+not_first t g h = off (is_first g) (find_all (λ f. not (is_first f)) after_first joins t g refl (join_found t g h)).0
 
 called_level : (g : Form) → is_called g ≡ true → form_level g ≡ call
 called_level slot.Call h = refl
@@ -75,6 +79,7 @@ shift_sound {fs = fs} {u = u} {ts = ts} {i = i} {e = e} {l = l} {d = d} b t fr l
           spells = λ {qs} {m} {ts = vs} {next} {p} sort _ dd made. made_expr p sort m vs next made (Sentences.sign t (kind_is j t.kind told) dd);
           begins = λ {n = h} {ts = vs} next _ dd.
               of_height AsExpr fs (in_joined g t vs is are free (tight g is) low fit de (past next refl (Sentences.sign {l = l} t (kind_is j t.kind told) Sentences.done) dd)) (omega arith) (ap (λ z. b ∷ z) (sym (append_assoc ts (t ∷ []) vs)));
+          parts = λ k _ dd. absurd (true≢false (sym k ∙ not_first t g is));
         } in
         subst (λ y. Reads y ((u ++ b ∷ ts) ++ t ∷ [])) r (subst (λ y. Reads (Due g l ss (AnExpr i e ∷ []) t.loc fs) y) (sym (append_assoc u (b ∷ ts) (t ∷ []))) (due (opened b fr (led, λ k. absurd (true≢false (sym k ∙ unbracketed t g is)), λ k. le-leb _ _ (subst (λ n. grip (place fs) ≤ n) (called_level g k) (tight g is))) tt tail)))
       where

@@ -110,6 +110,7 @@ form_sound {k = k} f t fs u d (Sign j ∷ ss) fr led kd spell start are told h =
     let tail : Tail k fs Any f t.loc ss [] t.loc (t ∷ []) = record {
       spells = λ {qs} {m} {ts} {next} is _ dd made. spell _ _ _ _ _ is (subst (λ x. SpellsSlots x qs t.loc m (t ∷ ts) next) (sym are) (Sentences.sign t (kind_is j t.kind told) dd)) made;
       begins = λ {n} {ts} next _ dd. start (max (heights []) n) ts (subst (λ x. OpensSlots (place fs) x (max (heights []) n) (t ∷ ts)) (sym are) (past next refl (Sentences.sign {l = t.loc} t (kind_is j t.kind told) Sentences.done) dd));
+      parts = λ {qs} {m} {ts} {next} is _ dd. subst (λ x. SpellsSlots x qs t.loc m (t ∷ ts) next) (sym are) (Sentences.sign t (kind_is j t.kind told) dd);
     } in
     subst (λ x. Reads x (u ++ t ∷ [])) q (due (opened t fr (led, λ is. refl, λ k. absurd (true≢false (sym (call_first f _ k are)))) kd tail))
 form_sound {k = k} f t fs u d (Text c ∷ ss) fr led kd spell start are told h = by_piece (piece_of c t.kind t.loc) refl h
@@ -121,6 +122,7 @@ form_sound {k = k} f t fs u d (Text c ∷ ss) fr led kd spell start are told h =
         let tail : Tail k fs Any f t.loc ss (p ∷ []) t.loc (t ∷ []) = record {
           spells = λ {qs} {m} {ts} {next} is _ dd made. spell _ _ _ _ _ is (subst (λ x. SpellsSlots x (p ∷ qs) t.loc m (t ∷ ts) next) (sym are) (Sentences.text t e dd)) made;
           begins = λ {n} {ts} next _ dd. start (max (heights (p ∷ [])) n) ts (subst (λ x. OpensSlots (place fs) x (max (heights (p ∷ [])) n) (t ∷ ts)) (sym are) (past next refl (Sentences.text {l = t.loc} t e Sentences.done) dd));
+          parts = λ {qs} {m} {ts} {next} is _ dd. subst (λ x. SpellsSlots x (p ∷ qs) t.loc m (t ∷ ts) next) (sym are) (Sentences.text t e dd);
         } in
         subst (λ x. Reads x (u ++ t ∷ [])) q (due (opened t fr (led, λ is. refl, λ k. absurd (true≢false (sym (call_first f _ k are)))) kd tail))
 form_sound f t fs u d ss fr led kd spell start are told h = absurd (true≢false (sym told))

@@ -213,7 +213,7 @@ nothing_after : {ss : List Slot} {qs : List Piece} {l m : Loc} {us : List Token}
 nothing_after Sentences.done h = refl
 nothing_after d h = absurd cc
 
-goes_comma : (e : Expr) (t : Token) → t.kind ≡ T.Punctuator P.Comma → goes_on (Level assignment) e t ≡ false
+pub goes_comma : (e : Expr) (t : Token) → t.kind ≡ T.Punctuator P.Comma → goes_on (Level assignment) e t ≡ false
 goes_comma e t is = subst (λ k. goes_on (Level assignment) e (remade t k) ≡ false) (sym is) refl
 
 goes_colon : (e : Expr) (t : Token) → t.kind ≡ T.Punctuator P.Colon → goes_on (Level any) e t ≡ false

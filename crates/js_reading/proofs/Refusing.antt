@@ -23,7 +23,7 @@ use Rattle.js_reading.specs.Unsupported.{Unsupported, Stops, Begins, at_property
 use Rattle.js_reading.proofs.Firsts.{remade}
 use Rattle.js_reading.proofs.KindsLemmas.{kind_is}
 use Rattle.js_reading.proofs.Runs.{nowhere, by_bool, run_append}
-use Rattle.js_reading.proofs.Shapes.{closing}
+use Rattle.js_reading.proofs.Shapes.{closing, both_true}
 use Rattle.js_reading.proofs.Rows.{inner_kind, sign_inner, either_of, nameless, sure, tight}
 use Rattle.js_reading.proofs.Ways.{may, FineAt, named, turn_way, come_to, lands}
 use Rattle.js_reading.proofs.Lasting.{last_missing, TightAt, grasp, tight_at, missing_at}
@@ -36,6 +36,7 @@ use Rattle.js_reading.proofs.Quiet.{IsName, Quiet, is_each_kind, name_quiet, asy
 use Rattle.js_reading.proofs.Arrows.{arguments_stop}
 use Rattle.js_reading.proofs.OuterKept.{ShownAt, outer_endless, this_lost}
 use Rattle.js_reading.proofs.Protos.{part, no_object}
+use Rattle.js_reading.proofs.Parameters.{parameter_lost}
 use Rattle.js_reading.proofs.Targets.{parenthesized_facts, literal_facts, assigned_lost, updated_stops, head_lost, assign_assigns}
 
 -- ---- no run goes on
@@ -485,4 +486,5 @@ begins_dead u vs us c h (Unsupported.target_before {i = i} {e = e} {l = l} {t = 
 begins_dead u vs us c h (Unsupported.target_in_head {i = i} {e = e} {l = l} {t = t} {te = te} f fs word ts begins fit de is at each_) = let a = parenthesized_facts e is in lost_after Doomed doomed_endless vs us c h (head_lost c i e l t te f fs word ts begins fit de a.0 a.1 at each_)
 begins_dead u vs us c h (Unsupported.literal {i = i} {e = e} {l = l} {t = t} {te = te} f fs sign ts begins fit de is assigned go) = let a = literal_facts e is in lost_after Doomed doomed_endless vs us c h (assigned_lost c i e l t te f fs sign ts begins fit de a.0 a.1 (assign_assigns sign assigned) go)
 begins_dead u vs us c h (Unsupported.literal_in_head {i = i} {e = e} {l = l} {t = t} {te = te} f fs word ts begins fit de is at each_) = let a = literal_facts e is in lost_after Doomed doomed_endless vs us c h (head_lost c i e l t te f fs word ts begins fit de a.0 a.1 at each_)
+begins_dead u vs us c h (Unsupported.parameter {t = t} f fs closing_ arrow ts begins takes dxs is is_closing is_arrow line) = lost_after Doomed doomed_endless vs us c h (parameter_lost c t f fs closing_ arrow ts begins takes dxs is (mark_is P.CloseParenthesis closing_ is_closing) (both_true is_arrow (ap not line)))
 begins_dead u vs us c h (Unsupported.this_outside {t = t} {ts = us_} fs begins is n) = lost_after ShownAt outer_endless vs us c h (this_lost t us_ c fs begins (word_is (codes "this") t is) n)

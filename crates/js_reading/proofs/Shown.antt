@@ -16,8 +16,7 @@ use Rattle.js_reading.specs.Sentences.{stands_for, grip, fits, bans, continues}
 use Rattle.js_reading.specs.Turns.{place, Frame, InForm, Config, Due, leads, take, choose, pass, take_second, shift, wanted, banned, have, turn}
 use Rattle.js_reading.specs.Unsupported.{Unsupported, assigns, is_each, is_head, is_update, is_parenthesized_target, is_literal_pattern}
 use Rattle.js_reading.specs.Found.{Find, when, first_of, left_sides, left_side, on_its_line, group, first_part, shown_by, shown}
-use Rattle.js_reading.proofs.Groups.{is_group}
-use Rattle.js_reading.proofs.Whole.{target_group, literal_group}
+use Rattle.js_reading.proofs.Groups.{is_group, target_group, literal_group}
 use Rattle.js_reading.proofs.Lasting.{last_missing, ends_missing}
 use Rattle.js_reading.proofs.Rows.{either_of}
 use Rattle.js_reading.proofs.Runs.{nowhere, by_bool}

@@ -75,6 +75,7 @@ expression_sound {fs = fs} {u = u} {ts = ts} {l = l} {d = d} {i = i} {e = e} b t
         let tail : Tail AsStmt fs Any slot.Labelled b.loc (Stmt_ ∷ []) (AnExpr i e ∷ []) t.loc (b ∷ (ts ++ t ∷ [])) = record {
           spells = λ {qs} {m} {ts = vs} {next} {p} sort _ dd made. label_made p sort m vs next fit (kind_is (T.Punctuator P.Colon) t.kind both.0) dd made;
           begins = λ {n = h} {ts = vs} next _ dd. label_begun h vs next fit (kind_is (T.Punctuator P.Colon) t.kind both.0) dd;
+          parts = λ k _ dd. absurd (true≢false (sym k));
         } in
         subst (λ y. Reads y ((u ++ b ∷ ts) ++ t ∷ [])) r (subst (λ y. Reads (Due slot.Labelled b.loc (Stmt_ ∷ []) (AnExpr i e ∷ []) t.loc fs) y) (sym (append_assoc u (b ∷ ts) (t ∷ []))) (due (opened b fr (below, λ k. absurd (true≢false (sym k)), λ k. absurd (true≢false (sym k))) refl tail)))
 
@@ -89,6 +90,7 @@ expression_sound {fs = fs} {u = u} {ts = ts} {l = l} {d = d} {i = i} {e = e} b t
         let tail : Tail AsStmt fs (Only t) slot.Expression b.loc (By slot.Semicolon ∷ []) (AnExpr i e ∷ []) l (b ∷ ts) = record {
           spells = λ {qs} {m} {ts = vs} {next} {p} sort is dd made. statement_made p sort m vs next c is dd made;
           begins = λ {n = h} {ts = vs} next is dd. statement_begun h vs next c is dd;
+          parts = λ k _ dd. absurd (true≢false (sym k));
         } in
         pass_sound slot.Expression b.loc (By slot.Semicolon ∷ []) (AnExpr i e ∷ []) l fs u ts b t d (λ p m. have fs p m t) fr (below, λ k. absurd (true≢false (sym k)), λ k. absurd (true≢false (sym k))) came refl tail
         (λ o m so sp r. have_option fs u b o m t d fr so (λ p x is y. rec _ u b ts p m fr below came is (sp p x is) y) r) q

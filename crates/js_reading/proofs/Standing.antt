@@ -3,13 +3,14 @@ use Rattle.std.proofs.Common.{◌≡◌, ℕ, ◌+◌, max, Bool, true, false, L
 use Rattle.js_tree.specs.declared.place.Loc.{Loc}
 use Rattle.js_tree.specs.Plain.{Expr, Exprs, no_expr, more_expr, push_exprs, Stmt, Stmts, no_stmt, more_stmt, push_stmts}
 use Rattle.js_tree.specs.Height.{height_expr, height_exprs}
+use Rattle.js_reading.proofs.Makings.{is_first}
 use Rattle.js_reading.proofs.Shapes.{first_append}
 use Rattle.js_text.specs.Token.{Token, Kind}
 use Rattle.js_text.specs.Token as T
 use Rattle.js_text.specs.declared.punctuator.Punctuator.{Punctuator}
 use Rattle.js_reading.specs.Spans.{through, first}
 use Rattle.js_reading.specs.Slots.{Wanted, Slot, Sign, Text, Expr_, Stmt_, Stmts_, Items_, Place_, By, Piece, AnExpr, AStmt, TheStmts, TheExprs, APlace, Pass, Go, Form, Class, Choice}
-use Rattle.js_reading.specs.Productions.{piece_of}
+use Rattle.js_reading.specs.Productions.{piece_of, slots}
 use Rattle.js_reading.specs.Choices.{branch}
 use Rattle.js_reading.specs.Makes.{build, is_declaration}
 use Rattle.js_reading.specs.Sentences
@@ -52,10 +53,12 @@ exprs_pushed (more_expr x xs) e = let r = exprs_pushed xs e in omega (arith, r)
 pub of_height : (k : Sort) (fs : List Frame) {n m : ℕ} {ts us : List Token} → Begun k fs n ts → n ≡ m → ts ≡ us → Begun k fs m us
 of_height k fs {m = m} {ts = ts} d e q = subst (λ x. Begun k fs m x) q (subst (λ x. Begun k fs x ts) e d)
 
--- from these tokens on, these slots complete a production of a sort, and what they begin is begun in it
+-- from these tokens on, these slots complete a production of a sort, and what they begin is begun in it; where its first token tells it, they
+-- complete its slots
 pub record Tail (k : Sort) (fs : List Frame) (c : When) (f : Form) (w : Loc) (ss : List Slot) (ps : List Piece) (l : Loc) (us : List Token) : Type 0 where
   pub spells : {qs : List Piece} {m : Loc} {ts : List Token} {next : Token} {p : Piece} → IsOf k p → Holds c (first ts next) → SpellsSlots ss qs l m ts next → build f (through w m) (ps ++ qs) ≡ Some p → Spells p (through w m) (us ++ ts) next
   pub begins : {n : ℕ} {ts : List Token} (next : Token) → Holds c (first ts next) → OpensSlots (place fs) ss n ts → Begun k fs (max (heights ps) n + 1) (us ++ ts)
+  pub parts : {qs : List Piece} {m : Loc} {ts : List Token} {next : Token} → is_first f ≡ true → Holds c (first ts next) → SpellsSlots ss qs l m ts next → SpellsSlots (slots f) (ps ++ qs) w m (us ++ ts) next
 
 -- a part more
 move : {k : Sort} {fs : List Frame} {c d : When} {f : Form} {w l x : Loc} {ss rs : List Slot} {ps : List Piece} {us : List Token} (new : List Piece) (vs : List Token) →
@@ -68,6 +71,9 @@ move {k = k} {fs = fs} {f = f} {w = w} {ps = ps} {us = us} new vs holds slot beg
       subst (λ x. Spells p (through w m) x next) (sym (append_assoc us vs ts))
       (tail.spells is (holds ts next h) (slot qs m ts next h d) (ap (λ x. build f (through w m) x) (sym (append_assoc ps new qs)) ∙ e));
   begins = λ {n} {ts} next h d. let a = heights_append ps new in of_height k fs (tail.begins next (holds ts next h) (begin n ts next h d)) (omega (arith, a)) (sym (append_assoc us vs ts));
+  parts = λ {qs} {m} {ts} {next} is h d.
+      subst (λ x. SpellsSlots (slots f) x w m ((us ++ vs) ++ ts) next) (sym (append_assoc ps new qs))
+      (subst (λ x. SpellsSlots (slots f) (ps ++ (new ++ qs)) w m x next) (sym (append_assoc us vs ts)) (tail.parts is (holds ts next h) (slot qs m ts next h d)));
 }
 
 -- the same with no piece more
@@ -139,7 +145,7 @@ after_chosen {c = c} {xs = xs} {s = s} {rs = rs} t is may tail = still (move xs 
     (λ n ts next h d. open_chosen next (subst (λ x. branch c x ≡ Go xs s rs) (sym h) is) may d) tail)
 
 pub narrowed : {k : Sort} {fs : List Frame} {f : Form} {w l : Loc} {ss : List Slot} {ps : List Piece} {us : List Token} {t : Token} → Tail k fs Any f w ss ps l us → Tail k fs (Only t) f w ss ps l us
-narrowed tail = record { spells = λ is h d e. tail.spells is tt d e; begins = λ next h d. tail.begins next tt d }
+narrowed tail = record { spells = λ is h d e. tail.spells is tt d e; begins = λ next h d. tail.begins next tt d; parts = λ is h d. tail.parts is tt d }
 
 -- the production is there
 pub spelled : {k : Sort} {fs : List Frame} {c : When} {f : Form} {w l : Loc} {ps : List Piece} {us : List Token} {p : Piece} → Tail k fs c f w [] ps l us → IsOf k p → build f (through w l) ps ≡ Some p → (n : Token) → Holds c n → Spells p (through w l) us n

@@ -1,4 +1,4 @@
--- Where a token is read, only a group, `this` and a key `__proto__` are found: at the others the machine stops.
+-- Where a token is read, only a group, `this`, a key `__proto__` and a parameter are found: at the others the machine stops.
 use Rattle.std.proofs.Common.{◌≡◌, Bool, true, false, ◌&&◌, List, [], ◌∷◌, Option, Some, None, refl, sym, ap, ◌∙◌}
 use Rattle.std.proofs.lemmas.Bool.{and_parts}
 use Rattle.js_tree.specs.declared.place.Loc.{Loc}
@@ -9,7 +9,7 @@ use Rattle.js_reading.specs.Slots as slot
 use Rattle.js_reading.specs.Productions.{is_mark}
 use Rattle.js_reading.specs.Turns.{Config, Due, Start, turn, then_run, run}
 use Rattle.js_reading.specs.Unsupported.{Unsupported, Async, Stops}
-use Rattle.js_reading.specs.Found.{Find, when, first_of, one, two, three, group, shown, outside, starts, asyncs, named_callee, arrow_after, called, Turns, two_back, proto_back, three_back, found, Searched, not_begun, searched}
+use Rattle.js_reading.specs.Found.{Find, when, first_of, one, two, three, group, shown, parameter, outside, starts, asyncs, named_callee, arrow_after, called, Turns, two_back, proto_back, three_back, found, Searched, not_begun, searched}
 use Rattle.js_reading.proofs.Arrows.{Arrow, arrow_of_kind, no_arrow_after}
 use Rattle.js_reading.proofs.Begun.{one_stops, two_stops, three_stops}
 use Rattle.js_reading.proofs.Found.{searched_run}
@@ -62,13 +62,13 @@ not_called turns c d t x fine h q = absurd cc
 no_called : {ts : List Token} {turns : Turns} {c d : Config} (t : Token) → Searched ts turns c → turn c t ≡ Some d → called turns c t ≡ None
 no_called {ts = ts} {turns = turns} {c = c} {d = d} t s h = none_of (called turns c t) (λ x q. not_called turns c d t x (come_to ts c (searched_run s)) h q)
 
-few : {a b c e : Find} (g o p : Find) → a ≡ None → b ≡ None → c ≡ None → e ≡ None → first_of (a ∷ b ∷ c ∷ g ∷ o ∷ e ∷ p ∷ []) ≡ first_of (g ∷ o ∷ p ∷ [])
-few {a = a} {b = b} {c = c} {e = e} g o p ha hb hc he =
-    ap (λ x. first_of (x ∷ b ∷ c ∷ g ∷ o ∷ e ∷ p ∷ [])) ha ∙ ap (λ x. first_of (x ∷ c ∷ g ∷ o ∷ e ∷ p ∷ [])) hb ∙ ap (λ x. first_of (x ∷ g ∷ o ∷ e ∷ p ∷ [])) hc ∙ ap (λ x. first_of (g ∷ o ∷ x ∷ p ∷ [])) he
+few : {a b c e : Find} (g o p q : Find) → a ≡ None → b ≡ None → c ≡ None → e ≡ None → first_of (a ∷ b ∷ c ∷ g ∷ o ∷ e ∷ p ∷ q ∷ []) ≡ first_of (g ∷ o ∷ p ∷ q ∷ [])
+few {a = a} {b = b} {c = c} {e = e} g o p q ha hb hc he =
+    ap (λ x. first_of (x ∷ b ∷ c ∷ g ∷ o ∷ e ∷ p ∷ q ∷ [])) ha ∙ ap (λ x. first_of (x ∷ c ∷ g ∷ o ∷ e ∷ p ∷ q ∷ [])) hb ∙ ap (λ x. first_of (x ∷ g ∷ o ∷ e ∷ p ∷ q ∷ [])) hc ∙ ap (λ x. first_of (g ∷ o ∷ x ∷ p ∷ q ∷ [])) he
 
-pub read_found : {ts : List Token} {turns : Turns} {c d : Config} (t : Token) → Searched ts turns c → turn c t ≡ Some d → found turns c t ≡ first_of (group c t ∷ outside (Some d) t ∷ proto_back turns t ∷ [])
+pub read_found : {ts : List Token} {turns : Turns} {c d : Config} (t : Token) → Searched ts turns c → turn c t ≡ Some d → found turns c t ≡ first_of (group c t ∷ outside (Some d) t ∷ proto_back turns t ∷ parameter c t ∷ [])
 read_found {turns = turns} {c = c} {d = d} t s h =
-    few (group c t) (outside (turn c t) t) (proto_back turns t) (no_one t s h) (no_two_back t s h) (no_three_back t s h) (no_called t s h) ∙ ap (λ o. first_of (group c t ∷ outside o t ∷ proto_back turns t ∷ [])) h
+    few (group c t) (outside (turn c t) t) (proto_back turns t) (parameter c t) (no_one t s h) (no_two_back t s h) (no_three_back t s h) (no_called t s h) ∙ ap (λ o. first_of (group c t ∷ outside o t ∷ proto_back turns t ∷ parameter c t ∷ [])) h
 
-pub read_finds : {ts : List Token} {turns : Turns} {c d : Config} (t : Token) → Searched ts turns c → turn c t ≡ Some d → found turns c t ≡ first_of (shown c d t ∷ outside (Some d) t ∷ proto_back turns t ∷ [])
-read_finds {turns = turns} {c = c} {d = d} t s h = read_found t s h ∙ ap (λ x. first_of (x ∷ outside (Some d) t ∷ proto_back turns t ∷ [])) (group_shown c d t h)
+pub read_finds : {ts : List Token} {turns : Turns} {c d : Config} (t : Token) → Searched ts turns c → turn c t ≡ Some d → found turns c t ≡ first_of (shown c d t ∷ outside (Some d) t ∷ proto_back turns t ∷ parameter c t ∷ [])
+read_finds {turns = turns} {c = c} {d = d} t s h = read_found t s h ∙ ap (λ x. first_of (x ∷ outside (Some d) t ∷ proto_back turns t ∷ parameter c t ∷ [])) (group_shown c d t h)

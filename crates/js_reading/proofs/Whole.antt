@@ -1,9 +1,9 @@
 -- What begins a form is found at the form's last token, whatever stands after it.
-use Rattle.std.proofs.Common.{◌≡◌, ℕ, zero, suc, Bool, true, false, not, ◌&&◌, List, [], ◌∷◌, ◌++◌, Some, None, codes, if◌then◌else◌, refl, sym, ap, subst, ◌∙◌, append_assoc, arith}
+use Rattle.std.proofs.Common.{◌≡◌, ℕ, zero, suc, Bool, true, false, not, ◌&&◌, List, [], ◌∷◌, ◌++◌, Option, Some, None, codes, if◌then◌else◌, refl, sym, ap, subst, ◌∙◌, append_assoc, arith}
 use Rattle.std.specs.Prelude.{nat_le}
 use Rattle.std.proofs.lemmas.Bool.{true≢false, cond-true, cond-false, le-leb, leb-true}
 use Rattle.js_tree.specs.declared.place.Loc.{Loc}
-use Rattle.js_tree.specs.Plain.{Expr, Exprs, no_expr}
+use Rattle.js_tree.specs.Plain.{Expr, Exprs, no_expr, more_expr}
 use Rattle.js_tree.specs.Plain as tree
 use Rattle.js_text.specs.Token.{Token, Kind, Word}
 use Rattle.js_text.specs.Token as T
@@ -16,11 +16,12 @@ use Rattle.js_reading.specs.Productions.{primary, call, is_mark, is_word}
 use Rattle.js_reading.specs.Sentences.{grip, fits, continues, Spells, SpellsItems}
 use Rattle.js_reading.specs.Turns.{place, Frame, InForm, Config, Due, Have, want, wanted, banned, have, turn, then_run, run}
 use Rattle.js_reading.specs.Unsupported
-use Rattle.js_reading.specs.Unsupported.{Unsupported, Stops, Begins, at_any_name, at_property, takes_call, in_function, is_parenthesized_target, is_literal_pattern}
-use Rattle.js_reading.specs.Found.{Find, first_of, ones, one, twos, two, proto_key, three, left_sides, group, outside, opens_call, starts, asyncs, called, Turns}
+use Rattle.js_reading.specs.Unsupported.{Unsupported, Stops, Begins, at_any_name, at_property, takes_call, takes_parameter, in_function, is_parenthesized_target, is_literal_pattern}
+use Rattle.js_reading.specs.Found.{Find, first_of, ones, one, twos, two, proto_key, three, left_sides, group, on_its_line, before_body, parameter, outside, opens_call, starts, asyncs, called, Turns}
 use Rattle.js_reading.proofs.Firsts.{remade}
-use Rattle.js_reading.proofs.Groups.{is_group, stands}
+use Rattle.js_reading.proofs.Groups.{is_group, target_group, literal_group, stands}
 use Rattle.js_reading.proofs.KindsLemmas.{kind_is}
+use Rattle.js_reading.proofs.Parameters.{first_literal, literal_among, listed}
 use Rattle.js_reading.proofs.Reading.{complete_items, due_run, fits_place}
 use Rattle.js_reading.proofs.Shapes.{both_true}
 
@@ -52,6 +53,7 @@ pub data Whole : Config → List Token → Token → Type 0 where
   of_proto : {c : Config} {t next : Token} → (proto_key c t next ≡ None → ⊥) → Whole c (t ∷ []) next
   of_three : {c : Config} {t name arrow : Token} → (three c t name arrow ≡ None → ⊥) → Whole c (t ∷ name ∷ []) arrow
   of_group : {c d : Config} {ts : List Token} {t : Token} → run c ts ≡ Some d → (group d t ≡ None → ⊥) → Whole c ts t
+  of_parameter : {c d : Config} {ts : List Token} {t : Token} → run c ts ≡ Some d → (parameter d t ≡ None → ⊥) → Whole c ts t
   of_this : {c : Config} {t : Token} → (outside (turn c t) t ≡ None → ⊥) → Whole c [] t
   of_call : {c d : Config} {t opening : Token} {ts : List Token} {arrow : Token} → run c (t ∷ opening ∷ ts) ≡ Some d → opens_call t opening ≡ true → ((turns : Turns) → starts t.loc (asyncs turns) ≡ true → called turns d arrow ≡ None → ⊥) → Whole c (t ∷ opening ∷ ts) arrow
 
@@ -70,20 +72,29 @@ two_parts {t = t} {next = next} ts h = record { before = t ∷ []; last = next; 
 
 -- ---- a group
 
-pub target_group : (e : Expr) → is_parenthesized_target e ≡ true → is_group e ≡ true
-target_group (tree.Parenthesized l e) h = refl
-target_group e h = absurd (true≢false (sym h))
-
-pub literal_group : (e : Expr) → is_literal_pattern e ≡ true → is_group e ≡ true
-literal_group (tree.ArrayLiteral l xs) h = refl
-literal_group (tree.ObjectLiteral l ps) h = refl
-literal_group e h = absurd (true≢false (sym h))
-
 group_parts : {c : Config} {i : ℕ} {e : Expr} {l : Loc} {t : Token} {te : List Token} (f : Frame) (fs : List Frame) (sign : Token) (ts : List Token) → turn c t ≡ want t (f ∷ fs) → fits (wanted f) i e ≡ true → Spells (AnExpr i e) l (t ∷ te) sign → is_group e ≡ true →
     (first_of (left_sides i e t.loc f sign) ≡ None → ⊥) → Parts c (t ∷ (te ++ sign ∷ ts))
 group_parts {t = t} {te = te} f fs sign ts begins fit de is told =
     let s = stands de is f fs fit in
     record { before = t ∷ te; last = sign; after = ts; are = refl; whole = of_group (ap (λ o. then_run o (λ c. run c te)) begins ∙ s.1) (λ h. told (sym s.2 ∙ h)) }
+
+-- ---- a literal among the items of parentheses
+
+before_arrow : {o : Option Loc} {l : Loc} (arrow : Token) → o ≡ Some l → on_its_line arrow ≡ true → before_body o arrow ≡ None → ⊥
+before_arrow {l = l} arrow h on k = fired (Unsupported.BindingPattern, l) on (sym (ap (λ o. before_body o arrow) h) ∙ k)
+
+parameter_parts : {c : Config} {b : Bool} {e : Expr} {xs : Exprs} {t : Token} {tx : List Token} (f : Frame) (fs : List Frame) (closing_ arrow : Token) (ts : List Token) → turn c t ≡ want t (f ∷ fs) → takes_parameter f ≡ true → SpellsItems b (more_expr e xs) (t ∷ tx) closing_ → is_literal_pattern e ≡ true →
+    is_mark P.CloseParenthesis closing_ ≡ true → on_its_line arrow ≡ true → Parts c (t ∷ (tx ++ closing_ ∷ arrow ∷ ts))
+parameter_parts {c = c} {e = e} {xs = xs} {t = t} {tx = tx} f fs closing_ arrow ts begins takes dxs is is_closing on =
+    let a = listed c t f fs closing_ begins takes dxs (kind_is (T.Punctuator P.CloseParenthesis) closing_.kind is_closing) in
+    let first = first_literal dxs is in
+    record {
+      before = t ∷ (tx ++ closing_ ∷ []);
+      last = arrow;
+      after = ts;
+      are = ap (λ x. t ∷ x) (sym (append_assoc tx (closing_ ∷ []) (arrow ∷ ts)));
+      whole = of_parameter (a.runs []) (before_arrow arrow (literal_among a.before e xs first.0 first.1).1 on);
+    }
 
 -- ---- `async` with arguments
 
@@ -194,6 +205,7 @@ parts (Unsupported.target_before {i = i} {e = e} {t = t} f fs sign ts begins fit
 parts (Unsupported.target_in_head {i = i} {e = e} {t = t} f fs word ts begins fit de is at each_) = group_parts f fs word ts begins fit de (target_group e is) (λ h. fired _ (both_true is (both_true fit (both_true at each_))) (off_at (left_sides i e t.loc f word) 1 h))
 parts (Unsupported.literal {i = i} {e = e} {t = t} f fs sign ts begins fit de is assigned go) = group_parts f fs sign ts begins fit de (literal_group e is) (λ h. fired _ (both_true is (both_true fit (both_true assigned go))) (off_at (left_sides i e t.loc f sign) 3 h))
 parts (Unsupported.literal_in_head {i = i} {e = e} {t = t} f fs word ts begins fit de is at each_) = group_parts f fs word ts begins fit de (literal_group e is) (λ h. fired _ (both_true is (both_true fit (both_true at each_))) (off_at (left_sides i e t.loc f word) 4 h))
+parts (Unsupported.parameter f fs closing_ arrow ts begins takes dxs is is_closing is_arrow line) = parameter_parts f fs closing_ arrow ts begins takes dxs is is_closing (both_true is_arrow (ap not line))
 parts {c = c} (Unsupported.this_outside {t = t} {ts = ts} fs begins is n) = record { before = []; last = t; after = ts; are = refl; whole = of_this (λ h. fired _ (both_true is (ap not n)) (sym (ap (λ o. outside o t) there) ∙ h)) }
   where
     there : turn c t ≡ Some (Have (AnExpr primary (tree.This (Some t.loc))) t.loc fs)

@@ -1,5 +1,5 @@
 -- What is found with a token after others, computed. `<LF>` stands for a line terminator.
-use Rattle.std.proofs.Common.{◌≡◌, ℕ, Bool, true, false, List, [], ◌∷◌, Option, Some, None, refl}
+use Rattle.std.proofs.Common.{◌≡◌, ℕ, suc, Bool, true, false, List, [], ◌∷◌, Option, Some, None, refl}
 use Rattle.std.specs.Prelude.{codes}
 use Rattle.std.specs.Str.{chars}
 use Rattle.js_text.specs.Token.{Token, Kind, Word}
@@ -187,3 +187,100 @@ finds-29 = refl
 finds-30 : finds_at (a ∷ mark P.Assign ∷ []) (word (codes "class")) ≡ Some ClassForm
 unfolding is_keyword reserved_word chars token what searching finds_at finds_ahead a word mark
 finds-30 = refl
+
+-- `( { a } )`, then `=>`
+finds-31 : finds_at (mark P.OpenParenthesis ∷ mark P.OpenBrace ∷ a ∷ mark P.CloseBrace ∷ mark P.CloseParenthesis ∷ []) (mark P.Arrow) ≡ Some BindingPattern
+unfolding is_keyword reserved_word chars token what searching finds_at finds_ahead a word mark
+finds-31 = refl
+
+-- `( a , [ b ] )`, then `=>`
+finds-32 : finds_at (mark P.OpenParenthesis ∷ a ∷ mark P.Comma ∷ mark P.OpenBracket ∷ word (codes "b") ∷ mark P.CloseBracket ∷ mark P.CloseParenthesis ∷ []) (mark P.Arrow) ≡ Some BindingPattern
+unfolding is_keyword reserved_word chars token what searching finds_at finds_ahead a word mark
+finds-32 = refl
+
+-- `( { a } , )`, then `=>`
+finds-33 : finds_at (mark P.OpenParenthesis ∷ mark P.OpenBrace ∷ a ∷ mark P.CloseBrace ∷ mark P.Comma ∷ mark P.CloseParenthesis ∷ []) (mark P.Arrow) ≡ Some BindingPattern
+unfolding is_keyword reserved_word chars token what searching finds_at finds_ahead a word mark
+finds-33 = refl
+
+-- `( { a } )`, then `;`
+finds-34 : finds_at (mark P.OpenParenthesis ∷ mark P.OpenBrace ∷ a ∷ mark P.CloseBrace ∷ mark P.CloseParenthesis ∷ []) (mark P.Semicolon) ≡ None
+unfolding is_keyword reserved_word chars token what searching finds_at finds_ahead a word mark
+finds-34 = refl
+
+-- `( { a } )`, then `.`
+finds-35 : finds_at (mark P.OpenParenthesis ∷ mark P.OpenBrace ∷ a ∷ mark P.CloseBrace ∷ mark P.CloseParenthesis ∷ []) (mark P.Dot) ≡ None
+unfolding is_keyword reserved_word chars token what searching finds_at finds_ahead a word mark
+finds-35 = refl
+
+-- `( { a } . b )`, then `=>`
+finds-36 : finds_at (mark P.OpenParenthesis ∷ mark P.OpenBrace ∷ a ∷ mark P.CloseBrace ∷ mark P.Dot ∷ word (codes "b") ∷ mark P.CloseParenthesis ∷ []) (mark P.Arrow) ≡ None
+unfolding is_keyword reserved_word chars token what searching finds_at finds_ahead a word mark
+finds-36 = refl
+
+-- `( ( { a } ) )`, then `=>`
+finds-37 : finds_at (mark P.OpenParenthesis ∷ mark P.OpenParenthesis ∷ mark P.OpenBrace ∷ a ∷ mark P.CloseBrace ∷ mark P.CloseParenthesis ∷ mark P.CloseParenthesis ∷ []) (mark P.Arrow) ≡ None
+unfolding is_keyword reserved_word chars token what searching finds_at finds_ahead a word mark
+finds-37 = refl
+
+-- `( a , b )`, then `=>`
+finds-38 : finds_at (mark P.OpenParenthesis ∷ a ∷ mark P.Comma ∷ word (codes "b") ∷ mark P.CloseParenthesis ∷ []) (mark P.Arrow) ≡ None
+unfolding is_keyword reserved_word chars token what searching finds_at finds_ahead a word mark
+finds-38 = refl
+
+-- `( { a } <LF>)`, then `=>`
+finds-39 : finds_at (mark P.OpenParenthesis ∷ mark P.OpenBrace ∷ a ∷ mark P.CloseBrace ∷ (true, T.Punctuator P.CloseParenthesis) ∷ []) (mark P.Arrow) ≡ Some BindingPattern
+unfolding is_keyword reserved_word chars token what searching finds_at finds_ahead a word mark
+finds-39 = refl
+
+-- `( { a } <LF>)`, then `<LF>=>`
+finds-40 : finds_at (mark P.OpenParenthesis ∷ mark P.OpenBrace ∷ a ∷ mark P.CloseBrace ∷ (true, T.Punctuator P.CloseParenthesis) ∷ []) ((true, T.Punctuator P.Arrow)) ≡ None
+unfolding is_keyword reserved_word chars token what searching finds_at finds_ahead a word mark
+finds-40 = refl
+
+-- `a ( { a } )`, then `=>`
+finds-41 : finds_at (a ∷ mark P.OpenParenthesis ∷ mark P.OpenBrace ∷ a ∷ mark P.CloseBrace ∷ mark P.CloseParenthesis ∷ []) (mark P.Arrow) ≡ None
+unfolding is_keyword reserved_word chars token what searching finds_at finds_ahead a word mark
+finds-41 = refl
+
+-- ---- where it stands: each token at the column of its number
+
+placed : ℕ → Bool × Kind → Token
+placed n k = record {
+  kind = k.1;
+  span = record { start = 0; end = 0 };
+  loc = record { start = record { line = 1; column = n }; end = record { line = 1; column = suc n } };
+  line_terminator_before = k.0;
+  comments = record { start = 0; end = 0 };
+}
+
+column : Find → Option ℕ
+column None = None
+column (Some x) = Some x.1.start.column
+
+finding : ℕ → Turns → Config → List (Bool × Kind) → Bool × Kind → Find
+finding n turns c [] k = found turns c (placed n k)
+finding n turns c (j ∷ ks) k = elim (turn c (placed n j)) as (λ o. Find) [ None ↦ None | Some d ↦ finding (suc n) ((c, placed n j) ∷ turns) d ks k ]
+
+pub column_of : List (Bool × Kind) → Bool × Kind → Option ℕ
+column_of ks k = column (finding 0 [] Start ks k)
+
+-- `( { a } )`, then `=>`
+column-1 : column_of (mark P.OpenParenthesis ∷ mark P.OpenBrace ∷ a ∷ mark P.CloseBrace ∷ mark P.CloseParenthesis ∷ []) (mark P.Arrow) ≡ Some 1
+unfolding is_keyword reserved_word chars placed column finding column_of a word mark
+column-1 = refl
+
+-- `( a , [ b ] )`, then `=>`
+column-2 : column_of (mark P.OpenParenthesis ∷ a ∷ mark P.Comma ∷ mark P.OpenBracket ∷ word (codes "b") ∷ mark P.CloseBracket ∷ mark P.CloseParenthesis ∷ []) (mark P.Arrow) ≡ Some 3
+unfolding is_keyword reserved_word chars placed column finding column_of a word mark
+column-2 = refl
+
+-- `( { a } , [ b ] )`, then `=>`
+column-3 : column_of (mark P.OpenParenthesis ∷ mark P.OpenBrace ∷ a ∷ mark P.CloseBrace ∷ mark P.Comma ∷ mark P.OpenBracket ∷ word (codes "b") ∷ mark P.CloseBracket ∷ mark P.CloseParenthesis ∷ []) (mark P.Arrow) ≡ Some 1
+unfolding is_keyword reserved_word chars placed column finding column_of a word mark
+column-3 = refl
+
+-- `( a , b )`, then `=>`
+column-4 : column_of (mark P.OpenParenthesis ∷ a ∷ mark P.Comma ∷ word (codes "b") ∷ mark P.CloseParenthesis ∷ []) (mark P.Arrow) ≡ None
+unfolding is_keyword reserved_word chars placed column finding column_of a word mark
+column-4 = refl

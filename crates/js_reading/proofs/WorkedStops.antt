@@ -388,6 +388,53 @@ stops-72 : goes_on_at ((false, Word (codes "function")) ∷ (false, Word (codes 
 unfolding is_keyword reserved_word chars given token stops_at goes_on_at
 stops-72 = refl
 
+-- ---- a literal among an arrow's parameters (15.3): where the arrow is whole
+
+-- `( { a } )` goes on with `=>`
+stops-73 : goes_on_at ((false, T.Punctuator P.OpenParenthesis) ∷ (false, T.Punctuator P.OpenBrace) ∷ (false, Word (codes "a")) ∷ (false, T.Punctuator P.CloseBrace) ∷ (false, T.Punctuator P.CloseParenthesis) ∷ []) ((false, T.Punctuator P.Arrow)) ≡ true
+unfolding is_keyword reserved_word chars given token stops_at goes_on_at
+stops-73 = refl
+
+-- `( { a } ) => 1` stops at `;`
+stops-74 : stops_at ((false, T.Punctuator P.OpenParenthesis) ∷ (false, T.Punctuator P.OpenBrace) ∷ (false, Word (codes "a")) ∷ (false, T.Punctuator P.CloseBrace) ∷ (false, T.Punctuator P.CloseParenthesis) ∷ (false, T.Punctuator P.Arrow) ∷ (false, Numeral (codes "1")) ∷ []) ((false, T.Punctuator P.Semicolon)) ≡ true
+unfolding is_keyword reserved_word chars given token stops_at goes_on_at
+stops-74 = refl
+
+-- `( a , [ b ] ) => c` stops at `;`
+stops-75 : stops_at ((false, T.Punctuator P.OpenParenthesis) ∷ (false, Word (codes "a")) ∷ (false, T.Punctuator P.Comma) ∷ (false, T.Punctuator P.OpenBracket) ∷ (false, Word (codes "b")) ∷ (false, T.Punctuator P.CloseBracket) ∷ (false, T.Punctuator P.CloseParenthesis) ∷ (false, T.Punctuator P.Arrow) ∷ (false, Word (codes "c")) ∷ []) ((false, T.Punctuator P.Semicolon)) ≡ true
+unfolding is_keyword reserved_word chars given token stops_at goes_on_at
+stops-75 = refl
+
+-- `( { a } ) => {` goes on with `}`
+stops-76 : goes_on_at ((false, T.Punctuator P.OpenParenthesis) ∷ (false, T.Punctuator P.OpenBrace) ∷ (false, Word (codes "a")) ∷ (false, T.Punctuator P.CloseBrace) ∷ (false, T.Punctuator P.CloseParenthesis) ∷ (false, T.Punctuator P.Arrow) ∷ (false, T.Punctuator P.OpenBrace) ∷ []) ((false, T.Punctuator P.CloseBrace)) ≡ true
+unfolding is_keyword reserved_word chars given token stops_at goes_on_at
+stops-76 = refl
+
+-- `( { a } ) => { }` stops at `;`
+stops-77 : stops_at ((false, T.Punctuator P.OpenParenthesis) ∷ (false, T.Punctuator P.OpenBrace) ∷ (false, Word (codes "a")) ∷ (false, T.Punctuator P.CloseBrace) ∷ (false, T.Punctuator P.CloseParenthesis) ∷ (false, T.Punctuator P.Arrow) ∷ (false, T.Punctuator P.OpenBrace) ∷ (false, T.Punctuator P.CloseBrace) ∷ []) ((false, T.Punctuator P.Semicolon)) ≡ true
+unfolding is_keyword reserved_word chars given token stops_at goes_on_at
+stops-77 = refl
+
+-- `( a , b ) => c` goes on with `;`
+stops-78 : goes_on_at ((false, T.Punctuator P.OpenParenthesis) ∷ (false, Word (codes "a")) ∷ (false, T.Punctuator P.Comma) ∷ (false, Word (codes "b")) ∷ (false, T.Punctuator P.CloseParenthesis) ∷ (false, T.Punctuator P.Arrow) ∷ (false, Word (codes "c")) ∷ []) ((false, T.Punctuator P.Semicolon)) ≡ true
+unfolding is_keyword reserved_word chars given token stops_at goes_on_at
+stops-78 = refl
+
+-- `( { a } )` goes on with `;`
+stops-79 : goes_on_at ((false, T.Punctuator P.OpenParenthesis) ∷ (false, T.Punctuator P.OpenBrace) ∷ (false, Word (codes "a")) ∷ (false, T.Punctuator P.CloseBrace) ∷ (false, T.Punctuator P.CloseParenthesis) ∷ []) ((false, T.Punctuator P.Semicolon)) ≡ true
+unfolding is_keyword reserved_word chars given token stops_at goes_on_at
+stops-79 = refl
+
+-- `( { a } ) . b` goes on with `;`
+stops-80 : goes_on_at ((false, T.Punctuator P.OpenParenthesis) ∷ (false, T.Punctuator P.OpenBrace) ∷ (false, Word (codes "a")) ∷ (false, T.Punctuator P.CloseBrace) ∷ (false, T.Punctuator P.CloseParenthesis) ∷ (false, T.Punctuator P.Dot) ∷ (false, Word (codes "b")) ∷ []) ((false, T.Punctuator P.Semicolon)) ≡ true
+unfolding is_keyword reserved_word chars given token stops_at goes_on_at
+stops-80 = refl
+
+-- `( { a } <LF>)` stops at `<LF>=>`
+stops-81 : stops_at ((false, T.Punctuator P.OpenParenthesis) ∷ (false, T.Punctuator P.OpenBrace) ∷ (false, Word (codes "a")) ∷ (false, T.Punctuator P.CloseBrace) ∷ (true, T.Punctuator P.CloseParenthesis) ∷ []) ((true, T.Punctuator P.Arrow)) ≡ true
+unfolding is_keyword reserved_word chars given token stops_at goes_on_at
+stops-81 = refl
+
 -- ---- `this` (13.2.1): whether it stands in a function that is no arrow
 
 own_of : Option Config → Option Bool

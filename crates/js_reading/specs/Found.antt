@@ -1,8 +1,9 @@
 -- What a reader that takes a token a turn finds of the forms that are left out: a form whose last token is this one, from the place
 -- before it and the two turns before, and its first token's location. It looks no further than the top of the stack, and the pieces there.
 use Rattle.std.specs.Prelude.{◌≡◌, ℕ, ◌==◌, Bool, true, false, not, ◌&&◌, ◌||◌, List, [], ◌∷◌, ◌++◌, Option, Some, None, codes, if◌then◌else◌}
+use Rattle.std.specs.Option.{option_or}
 use Rattle.js_tree.specs.declared.place.Loc.{Loc}
-use Rattle.js_tree.specs.Plain.{Expr}
+use Rattle.js_tree.specs.Plain.{Expr, Exprs, no_expr, more_expr}
 use Rattle.js_tree.specs.Plain as tree
 use Rattle.js_reading.specs.Spans.{through}
 use Rattle.js_text.specs.Token.{Token, End}
@@ -135,6 +136,25 @@ shown_by g p t = None
 abbrev pub shown : Config → Config → Token → Find
 shown c d t = shown_by (whole_group c t) (first_part d) t
 
+-- ---- a literal among the items of parentheses that an arrow's body follows: the first one, and where it stands
+
+abbrev pub literal_loc : Expr → Option Loc
+literal_loc (tree.ArrayLiteral l xs) = l
+literal_loc (tree.ObjectLiteral l ps) = l
+literal_loc e = None
+
+abbrev pub literal_item : Exprs → Option Loc
+literal_item no_expr = None
+literal_item (more_expr e es) = option_or (literal_loc e) (literal_item es)
+
+abbrev pub before_body : Option Loc → Token → Find
+before_body None t = None
+before_body (Some l) t = when (on_its_line t) BindingPattern l
+
+abbrev pub parameter : Config → Token → Find
+parameter (Due slot.Parentheses w (By slot.Arrow ∷ []) (TheExprs b xs ∷ []) l fs) t = before_body (literal_item xs) t
+parameter c t = None
+
 -- ---- `this`, from the place after it
 
 abbrev pub outside : Option Config → Token → Find
@@ -188,7 +208,7 @@ called turns (Due slot.New w [] ps l fs) t = arrow_after turns (named_callee ps)
 called turns c t = None
 
 abbrev pub finds : Turns → Config → Token → List Find
-finds turns c t = one c t ∷ two_back turns t ∷ three_back turns t ∷ group c t ∷ outside (turn c t) t ∷ called turns c t ∷ proto_back turns t ∷ []
+finds turns c t = one c t ∷ two_back turns t ∷ three_back turns t ∷ group c t ∷ outside (turn c t) t ∷ called turns c t ∷ proto_back turns t ∷ parameter c t ∷ []
 
 abbrev pub found : Turns → Config → Token → Find
 found turns c t = first_of (finds turns c t)
@@ -224,7 +244,7 @@ Clean ts = (u : Unsupported) (before us : List Token) (c : Config) → ts ≡ be
 abbrev pub Apart : List Token → Type 0
 Apart ts = (before between after : List Token) (t u : Token) → ts ≡ before ++ t ∷ (between ++ u ∷ after) → is_kind End t.kind ≡ false → same_start t.loc u.loc ≡ false
 
--- a token of these, at this location, begins this form
+-- a token of these, which starts where this location does, begins this form
 pub record BegunAt (ts : List Token) (what : Unsupported × Loc) : Type 0 where
   pub before : List Token
   pub first : Token
@@ -233,4 +253,4 @@ pub record BegunAt (ts : List Token) (what : Unsupported × Loc) : Type 0 where
   pub split : ts ≡ before ++ first ∷ others
   pub ran : run Start before ≡ Some place
   pub begins : Begins what.0 place (first ∷ others)
-  pub there : first.loc ≡ what.1
+  pub there : first.loc.start ≡ what.1.start

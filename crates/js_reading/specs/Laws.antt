@@ -16,7 +16,7 @@ use Rattle.js_reading.specs.Open.{OpensMore, floor}
 use Rattle.js_reading.specs.Unsupported.{Unsupported, Stops, Begins, at_any_name}
 use Rattle.js_reading.specs.Placed.{ArePlaced}
 use Rattle.js_walk.specs.Constructs.{constructs_file}
-use Rattle.js_reading.specs.Found.{first_of, shown, outside, proto_back, Turns, found, ahead, Searched, Clean, Apart, BegunAt}
+use Rattle.js_reading.specs.Found.{first_of, shown, outside, proto_back, parameter, Turns, found, ahead, Searched, Clean, Apart, BegunAt}
 use Rattle.js_reading.specs.Reads.{asked_for, Lexes, start_of, Reads, Supported, LeftOutThere, Leads, next_two}
 
 -- a sentence leads to its tree
@@ -75,9 +75,9 @@ FindsWhatIsRefused = (ts : List Token) (turns : Turns) (c : Config) (r : Token) 
 abbrev pub TokensStandApart : Type 0
 TokensStandApart = (text : List ℕ) (ts : List Token) (end : Place) → Lexes (start_of text) ts end → length (chars text) < 2 ^ 30 → Apart ts
 
--- where the token is read, only a group, `this` and a key `__proto__` may be found
+-- where the token is read, only a group, `this`, a key `__proto__` and a parameter may be found
 abbrev pub FindsFew : Type 0
-FindsFew = (ts : List Token) (turns : Turns) (c d : Config) (t : Token) → Searched ts turns c → turn c t ≡ Some d → found turns c t ≡ first_of (shown c d t ∷ outside (Some d) t ∷ proto_back turns t ∷ [])
+FindsFew = (ts : List Token) (turns : Turns) (c d : Config) (t : Token) → Searched ts turns c → turn c t ≡ Some d → found turns c t ≡ first_of (shown c d t ∷ outside (Some d) t ∷ proto_back turns t ∷ parameter c t ∷ [])
 
 -- what is found begins a form, where it is said
 abbrev pub FindsOnlyBegun : Type 0

@@ -1,7 +1,7 @@
 -- The forms of the standard that the language leaves out, and what begins each: a token at a place, and those after it.
 use Rattle.std.specs.Prelude.{◌≡◌, ℕ, nat_le, Bool, true, false, ◌||◌, List, [], ◌∷◌, ◌++◌, Option, Some, codes}
 use Rattle.js_tree.specs.declared.place.Loc.{Loc}
-use Rattle.js_tree.specs.Plain.{Expr, Exprs}
+use Rattle.js_tree.specs.Plain.{Expr, Exprs, more_expr}
 use Rattle.js_tree.specs.Plain as tree
 use Rattle.js_text.specs.Token.{Token, Kind, BigInt}
 use Rattle.js_text.specs.Token as T
@@ -132,6 +132,11 @@ abbrev pub is_update : Frame → Bool
 is_update (InForm (slot.PrefixUpdate o) w (Expr_ n) [] []) = true
 is_update f = false
 
+-- the frame of an item of parentheses, which is a parameter where an arrow's body follows them
+abbrev pub takes_parameter : Frame → Bool
+takes_parameter (InItems slot.Parentheses w P.CloseParenthesis (By slot.Arrow ∷ []) [] xs) = true
+takes_parameter f = false
+
 -- ---- the relations: at a place, these tokens begin with those that begin the form. Where the machine does with a token what it does
 -- ---- where an expression is wanted, one begins
 
@@ -179,5 +184,8 @@ pub data Begins : Unsupported → Config → List Token → Type 0 where
       is_literal_pattern e ≡ true → is_mark P.Assign sign ≡ true → continues (wanted f) e sign ≡ true → Begins BindingPattern c (t ∷ (te ++ sign ∷ ts))
   literal_in_head : {c : Config} {i : ℕ} {e : Expr} {l : Loc} {t : Token} {te : List Token} (f : Frame) (fs : List Frame) (word : Token) (ts : List Token) → turn c t ≡ want t (f ∷ fs) → fits (wanted f) i e ≡ true → Spells (AnExpr i e) l (t ∷ te) word →
       is_literal_pattern e ≡ true → is_head f ≡ true → is_each word ≡ true → Begins BindingPattern c (t ∷ (te ++ word ∷ ts))
+  -- a literal that is a whole item of parentheses, where an arrow's body follows them
+  parameter : {c : Config} {b : Bool} {e : Expr} {xs : Exprs} {t : Token} {tx : List Token} (f : Frame) (fs : List Frame) (closing arrow : Token) (ts : List Token) → turn c t ≡ want t (f ∷ fs) → takes_parameter f ≡ true → SpellsItems b (more_expr e xs) (t ∷ tx) closing → is_literal_pattern e ≡ true →
+      is_mark P.CloseParenthesis closing ≡ true → is_mark P.Arrow arrow ≡ true → arrow.line_terminator_before ≡ false → Begins BindingPattern c (t ∷ (tx ++ closing ∷ arrow ∷ ts))
   -- `this` where an expression begins in no function
   this_outside : {c : Config} {t : Token} {ts : List Token} (fs : List Frame) → turn c t ≡ want t fs → is_word (codes "this") t ≡ true → in_function fs ≡ false → Begins ThisOutside c (t ∷ ts)

@@ -7,3 +7,4 @@ pub mod GoalLemmas
 pub mod SightLemmas
 pub mod ObjectLemmas
 pub mod GroupLemmas
+pub mod ParameterLemmas

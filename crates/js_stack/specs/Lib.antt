@@ -10,3 +10,4 @@ pub mod Own
 pub mod Sight
 pub mod Objects
 pub mod Groups
+pub mod Parameters

@@ -133,7 +133,7 @@ fn is_each(token: Token<'_>) -> bool
 }
 
 /// Whether a token is `=>` where an arrow may have it.
-fn on_its_line(token: Token<'_>) -> bool
+pub(crate) fn on_its_line(token: Token<'_>) -> bool
     ensures { result ≡ found.on_its_line (plain_token token.entry) }
 {
     is_mark(Punctuator::Arrow, token.kind) && !token.line_terminator_before
@@ -174,7 +174,7 @@ fn takes_pattern(around: Around, token: Token<'_>) -> bool
 
 /// Whether no arrow has followed parentheses yet.
 #[tactic(auto, using(crate::proofs::GroupLemmas::arrow_is))]
-fn arrow_left(left: &Left) -> bool
+pub(crate) fn arrow_left(left: &Left) -> bool
     ensures { result ≡ spec.arrow_left (plain_slots left.now) }
 {
     arrow_next(left.first(), left.len() == 1)

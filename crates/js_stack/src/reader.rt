@@ -11,6 +11,7 @@ ghost use Rattle.js_stack.specs.Sight.{Sees};
 use crate::Refusal;
 use crate::goal::{after_expression, due_goal};
 use crate::groups::group;
+use crate::parameters::parameter;
 use crate::production::{Place, discard_place};
 use crate::sight::{Sight, callee, outside, seen};
 use crate::stack::{Stack, sum};
@@ -114,6 +115,13 @@ impl Reader {
         ensures { result ≡ found.group (machine self.now) (plain_token token.entry) }
     {
         group(&self.place, &self.stack, token)
+    }
+
+    /// A pattern among the parameters of an arrow in parentheses, whose body begins with this token.
+    pub fn parameter(&self, token: Token<'_>) -> Option<(Unsupported, Loc)>
+        ensures { result ≡ found.parameter (machine self.now) (plain_token token.entry) }
+    {
+        parameter(&self.place, &self.stack, token)
     }
 
     /// The name whose arguments are whole.

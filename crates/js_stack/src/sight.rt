@@ -66,7 +66,7 @@ fn is_call(form: Form) -> bool
 }
 
 /// Whether a production is a pair of parentheses.
-fn is_parentheses(form: Form) -> bool
+pub(crate) fn is_parentheses(form: Form) -> bool
     ensures { result ≡ unsupported.is_parentheses form }
 {
     match form {
