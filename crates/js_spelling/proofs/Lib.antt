@@ -1,0 +1,17 @@
+pub mod Characters
+pub mod Lists
+pub mod Escapes
+pub mod Literals
+pub mod Numbers
+pub mod Words
+pub mod Marks
+pub mod Alone
+pub mod Lexed
+pub mod Neighbours
+pub mod Operators
+pub mod Again
+pub mod Gaps
+pub mod Names
+pub mod Ones
+pub mod Wants
+pub mod Sentences
