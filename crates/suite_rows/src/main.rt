@@ -7,11 +7,11 @@ mod call;
 mod names;
 mod parts;
 mod place;
+mod printed;
 mod script;
 mod shape;
 mod spelled;
 mod tokens;
-mod tree;
 mod wanting;
 
 use script::answered;

@@ -12,20 +12,21 @@
 //                      (`>`), and how the run ends with the steps given so far (`=`)
 //     tokens TEXT      the text's tokens
 //     template TEXT    the token that continues a template at the text's start
-//     tree TEXT        the tree that the text is read to
 //     names TEXT       the names that the text writes, and what it asks for
 //     height TEXT      the height of the tree that the text is read to
 //     same TEXT <> TEXT   whether the two are read to the same but for places and parentheses
+//     prints TEXT      the lines that the tree of the text is printed as (`>`), or where and why it is refused (`!`)
+//     marks TEXT       the marks of these lines, and what begins there in the text
 //
 // Texts, paths and words are in percent encoding, and so is what is printed and said. A line that is none of these
 // ends the program.
 use crate::call::Setting;
 use crate::names::names_of;
 use crate::parts::run_parts;
+use crate::printed::{marks_of, print_lines};
 use crate::shape::{height_of, same_of};
 use crate::spelled::bytes_of;
 use crate::tokens::{template_of, tokens_of};
-use crate::tree::tree_of;
 use cov_base::Memory;
 use std::alloc::Global;
 
@@ -76,6 +77,10 @@ fn perform(
         }
         "puts" => setting.call_putting(alloc, rest, page),
         "parts" => run_parts(alloc, rest, page),
+        "prints" => {
+            print_lines(alloc, rest, page)?;
+            Ok(true)
+        }
         _ => match answer(alloc, word, rest)? {
             Some(answer) => {
                 page.push_str("> ")?;
@@ -93,8 +98,8 @@ fn answer(alloc: Global, word: &str, text: &str) -> Result<Option<String>, Memor
     match word {
         "tokens" => Ok(Some(tokens_of(alloc, bytes_of(alloc, text)?)?)),
         "template" => Ok(Some(template_of(alloc, bytes_of(alloc, text)?)?)),
-        "tree" => Ok(Some(tree_of(alloc, bytes_of(alloc, text)?)?)),
         "names" => Ok(Some(names_of(alloc, bytes_of(alloc, text)?)?)),
+        "marks" => Ok(Some(marks_of(alloc, bytes_of(alloc, text)?)?)),
         "height" => Ok(Some(height_of(alloc, bytes_of(alloc, text)?)?)),
         "same" => same_of(alloc, text),
         _ => Ok(None),

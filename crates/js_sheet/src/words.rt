@@ -1,0 +1,250 @@
+ghost use Rattle.std.specs.Prelude.{◌≡◌, ◌∷◌, [], codes, OnOk};
+ghost use Rattle.js_tree.specs.Tree.{plain_expr, plain_pattern};
+ghost use Rattle.js_text.specs.declared.punctuator.Punctuator.TheVariants as P;
+ghost use Rattle.js_reading.specs.Makes.{loc_of};
+ghost use Rattle.js_reading.specs.Productions as grammar;
+ghost use Rattle.js_layout.specs.Neat.{neat_expr};
+ghost use Rattle.js_layout.specs.Tokens as tokens;
+ghost use Rattle.js_sheet.specs.Pairs.{own_pair};
+ghost use Rattle.js_sheet.specs.Sheets.{put, put_all};
+
+use crate::sheet::Sheet;
+use items::Memory;
+use js_text::Punctuator;
+use js_tree::{
+    AssignmentOperator, BinaryOperator, Expr, ExprNode, Identifier, Loc, LogicalOperator, Pattern,
+    PatternNode, UnaryOperator, UpdateOperator, VariableKind,
+};
+
+/// How a boolean is spelt.
+pub fn truth(value: bool) -> &'static str
+    ensures { result.now ≡ tokens.truth value }
+{
+    if value { "true" } else { "false" }
+}
+
+/// The place of an expression in its parentheses.
+#[cycle(place)]
+#[tactic(auto, using(js_tree::proofs::Equations::tree_rules))]
+fn place_of(expr: &Expr) -> Option<Loc>
+    ensures { result ≡ loc_of (neat_expr (plain_expr expr.now)) }
+{
+    match &expr.node {
+        ExprNode::Parenthesized(inner) => place_of(inner.get()),
+        ExprNode::IdentifierReference(_)
+        | ExprNode::This
+        | ExprNode::NullLiteral
+        | ExprNode::BooleanLiteral(_)
+        | ExprNode::NumericLiteral(_)
+        | ExprNode::StringLiteral(_)
+        | ExprNode::ArrayLiteral(_)
+        | ExprNode::ObjectLiteral(_)
+        | ExprNode::FunctionExpression(_, _)
+        | ExprNode::ArrowFunction(_, _)
+        | ExprNode::RegularExpressionLiteral(_, _)
+        | ExprNode::TemplateLiteral(_, _)
+        | ExprNode::NamedMember(_, _)
+        | ExprNode::ComputedMember(_, _)
+        | ExprNode::New(_, _)
+        | ExprNode::Call(_, _)
+        | ExprNode::PostfixUpdate(_, _)
+        | ExprNode::PrefixUpdate(_, _)
+        | ExprNode::Unary(_, _)
+        | ExprNode::Binary(_, _, _)
+        | ExprNode::Logical(_, _, _)
+        | ExprNode::Conditional(_, _, _)
+        | ExprNode::Assignment(_, _, _)
+        | ExprNode::Comma(_, _) => expr.loc,
+    }
+}
+
+/// The place of an expression's own pair of parentheses, where it has one.
+#[tactic(auto, using(js_tree::proofs::Equations::tree_rules))]
+pub fn own_place(expr: &Expr) -> Option<Loc>
+    ensures { result ≡ own_pair (plain_expr expr.now) }
+{
+    match &expr.node {
+        ExprNode::Parenthesized(_) => expr.loc,
+        _ => None,
+    }
+}
+
+/// The place with which its pair goes, its own or another.
+pub fn pair_place(expr: &Expr) -> Option<Loc>
+    ensures { result ≡ tokens.pair_of (own_pair (plain_expr expr.now)) (neat_expr (plain_expr expr.now)) }
+{
+    match own_place(expr) {
+        Some(loc) => Some(loc),
+        None => place_of(expr),
+    }
+}
+
+/// Prints the head of a `for` as far as its parenthesis.
+pub fn put_for_head(to: &mut Sheet, loc: Option<Loc>) -> Result<(), Memory>
+    ensures { OnOk result (to.new ≡ put (put to.old (tokens.word loc (codes "for"))) (tokens.mark loc P.OpenParenthesis)) }
+{
+    to.word(loc, "for")?;
+    to.mark(loc, Punctuator::OpenParenthesis)
+}
+
+/// Prints `function`.
+pub fn put_function(to: &mut Sheet, loc: Option<Loc>) -> Result<(), Memory>
+    ensures { OnOk result (to.new ≡ put to.old (tokens.word loc (codes "function"))) }
+{
+    to.word(loc, "function")
+}
+
+/// Prints `continue`.
+pub fn put_continue(to: &mut Sheet, loc: Option<Loc>) -> Result<(), Memory>
+    ensures { OnOk result (to.new ≡ put to.old (tokens.word loc (codes "continue"))) }
+{
+    to.word(loc, "continue")
+}
+
+/// Prints `debugger`.
+pub fn put_debugger(to: &mut Sheet, loc: Option<Loc>) -> Result<(), Memory>
+    ensures { OnOk result (to.new ≡ put to.old (tokens.word loc (codes "debugger"))) }
+{
+    to.word(loc, "debugger")
+}
+
+/// Prints a name, where there is one.
+pub fn label(to: &mut Sheet, loc: Option<Loc>, name: &Option<Identifier>) -> Result<(), Memory>
+    ensures { OnOk result (to.new ≡ put_all to.old (tokens.label_tokens loc name.now)) }
+{
+    match name {
+        None => Ok(()),
+        Some(name) => to.word(loc, name.name.as_str()),
+    }
+}
+
+/// Prints what a declaration binds.
+#[tactic(auto, using(js_tree::proofs::Equations::tree_rules))]
+pub fn pattern(to: &mut Sheet, loc: Option<Loc>, pattern: &Pattern) -> Result<(), Memory>
+    ensures { OnOk result (to.new ≡ put_all to.old (tokens.pattern_tokens loc (plain_pattern pattern.now))) }
+{
+    match &pattern.node {
+        PatternNode::BindingIdentifier(name) => to.word(loc, name.as_str()),
+    }
+}
+
+/// Prints a binary operator.
+pub fn put_binary_sign(
+    to: &mut Sheet,
+    loc: Option<Loc>,
+    operator: BinaryOperator,
+) -> Result<(), Memory>
+    ensures { OnOk result (to.new ≡ put to.old (tokens.token loc (grammar.sign_of operator))) }
+{
+    match operator {
+        BinaryOperator::Exponentiate => to.mark(loc, Punctuator::Exponent),
+        BinaryOperator::Multiply => to.mark(loc, Punctuator::Star),
+        BinaryOperator::Divide => to.mark(loc, Punctuator::Slash),
+        BinaryOperator::Remainder => to.mark(loc, Punctuator::Percent),
+        BinaryOperator::Add => to.mark(loc, Punctuator::Plus),
+        BinaryOperator::Subtract => to.mark(loc, Punctuator::Minus),
+        BinaryOperator::LeftShift => to.mark(loc, Punctuator::ShiftLeft),
+        BinaryOperator::SignedRightShift => to.mark(loc, Punctuator::ShiftRight),
+        BinaryOperator::UnsignedRightShift => to.mark(loc, Punctuator::UnsignedShiftRight),
+        BinaryOperator::LessThan => to.mark(loc, Punctuator::LessThan),
+        BinaryOperator::GreaterThan => to.mark(loc, Punctuator::GreaterThan),
+        BinaryOperator::LessThanOrEqual => to.mark(loc, Punctuator::LessOrEqual),
+        BinaryOperator::GreaterThanOrEqual => to.mark(loc, Punctuator::GreaterOrEqual),
+        BinaryOperator::InstanceOf => to.word(loc, "instanceof"),
+        BinaryOperator::In => to.word(loc, "in"),
+        BinaryOperator::Equal => to.mark(loc, Punctuator::Equal),
+        BinaryOperator::NotEqual => to.mark(loc, Punctuator::NotEqual),
+        BinaryOperator::StrictEqual => to.mark(loc, Punctuator::StrictEqual),
+        BinaryOperator::StrictNotEqual => to.mark(loc, Punctuator::StrictNotEqual),
+        BinaryOperator::BitwiseAnd => to.mark(loc, Punctuator::Ampersand),
+        BinaryOperator::BitwiseXor => to.mark(loc, Punctuator::Caret),
+        BinaryOperator::BitwiseOr => to.mark(loc, Punctuator::Bar),
+    }
+}
+
+/// Prints a logical operator.
+pub fn put_logical_sign(
+    to: &mut Sheet,
+    loc: Option<Loc>,
+    operator: LogicalOperator,
+) -> Result<(), Memory>
+    ensures { OnOk result (to.new ≡ put to.old (tokens.mark loc (grammar.logical_sign operator))) }
+{
+    match operator {
+        LogicalOperator::And => to.mark(loc, Punctuator::LogicalAnd),
+        LogicalOperator::Or => to.mark(loc, Punctuator::LogicalOr),
+        LogicalOperator::Coalesce => to.mark(loc, Punctuator::Coalesce),
+    }
+}
+
+/// Prints an assignment operator.
+pub fn put_assignment_sign(
+    to: &mut Sheet,
+    loc: Option<Loc>,
+    operator: AssignmentOperator,
+) -> Result<(), Memory>
+    ensures { OnOk result (to.new ≡ put to.old (tokens.mark loc (grammar.assignment_sign operator))) }
+{
+    match operator {
+        AssignmentOperator::Assign => to.mark(loc, Punctuator::Assign),
+        AssignmentOperator::ExponentiateAssign => to.mark(loc, Punctuator::ExponentAssign),
+        AssignmentOperator::MultiplyAssign => to.mark(loc, Punctuator::MultiplyAssign),
+        AssignmentOperator::DivideAssign => to.mark(loc, Punctuator::DivideAssign),
+        AssignmentOperator::RemainderAssign => to.mark(loc, Punctuator::RemainderAssign),
+        AssignmentOperator::AddAssign => to.mark(loc, Punctuator::AddAssign),
+        AssignmentOperator::SubtractAssign => to.mark(loc, Punctuator::SubtractAssign),
+        AssignmentOperator::LeftShiftAssign => to.mark(loc, Punctuator::ShiftLeftAssign),
+        AssignmentOperator::SignedRightShiftAssign => to.mark(loc, Punctuator::ShiftRightAssign),
+        AssignmentOperator::UnsignedRightShiftAssign => to.mark(
+            loc,
+            Punctuator::UnsignedShiftRightAssign,
+        ),
+        AssignmentOperator::BitwiseAndAssign => to.mark(loc, Punctuator::AndAssign),
+        AssignmentOperator::BitwiseXorAssign => to.mark(loc, Punctuator::XorAssign),
+        AssignmentOperator::BitwiseOrAssign => to.mark(loc, Punctuator::OrAssign),
+    }
+}
+
+/// Prints a unary operator.
+pub fn put_unary_sign(
+    to: &mut Sheet,
+    loc: Option<Loc>,
+    operator: UnaryOperator,
+) -> Result<(), Memory>
+    ensures { OnOk result (to.new ≡ put to.old (tokens.token loc (grammar.prefix_of operator))) }
+{
+    match operator {
+        UnaryOperator::Delete => to.word(loc, "delete"),
+        UnaryOperator::Void => to.word(loc, "void"),
+        UnaryOperator::TypeOf => to.word(loc, "typeof"),
+        UnaryOperator::Plus => to.mark(loc, Punctuator::Plus),
+        UnaryOperator::Minus => to.mark(loc, Punctuator::Minus),
+        UnaryOperator::BitwiseNot => to.mark(loc, Punctuator::Tilde),
+        UnaryOperator::LogicalNot => to.mark(loc, Punctuator::Exclamation),
+    }
+}
+
+/// Prints an update operator.
+pub fn put_update_sign(
+    to: &mut Sheet,
+    loc: Option<Loc>,
+    operator: UpdateOperator,
+) -> Result<(), Memory>
+    ensures { OnOk result (to.new ≡ put to.old (tokens.mark loc (grammar.update_of operator))) }
+{
+    match operator {
+        UpdateOperator::Increment => to.mark(loc, Punctuator::Increment),
+        UpdateOperator::Decrement => to.mark(loc, Punctuator::Decrement),
+    }
+}
+
+/// Prints the word of a declaration.
+pub fn put_variable_word(to: &mut Sheet, loc: Option<Loc>, kind: VariableKind) -> Result<(), Memory>
+    ensures { OnOk result (to.new ≡ put to.old (tokens.word loc (grammar.variable_word kind))) }
+{
+    match kind {
+        VariableKind::Var => to.word(loc, "var"),
+        VariableKind::Let => to.word(loc, "let"),
+        VariableKind::Const => to.word(loc, "const"),
+    }
+}
