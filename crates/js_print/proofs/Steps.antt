@@ -50,12 +50,23 @@ of_expr {s} {t} {e} {form} is leads = leads.is ∙ ap (λ e. put_all s (expr_tok
 pub of_stmt : {s t : Sheet} {e form : Stmt} → e ≡ form → Leads s (stmt_tokens (neat_stmt form)) t → t ≡ put_all s (stmt_tokens (neat_stmt e))
 of_stmt {s} {t} {e} {form} is leads = leads.is ∙ ap (λ e. put_all s (stmt_tokens (neat_stmt e))) (sym is)
 
+-- the same of any form
+pub of_form : {A : Type 0} {s t : Sheet} {x form : A} (f : A → List Written) → x ≡ form → Leads s (f form) t → t ≡ put_all s (f x)
+of_form {A} {s} {t} {x} {form} f is leads = leads.is ∙ ap (λ x. put_all s (f x)) (sym is)
+
 -- an expression whose place asks for this level
 pub part_placed : {s t u : Sheet} {n m : ℕ} {ys : List Written} (e : Expr) → n ≡ m → t ≡ put_all s (expr_tokens (placed n e (neat_expr e))) → Leads t ys u → Leads s (expr_tokens (placed m e (neat_expr e)) ++ ys) u
 part_placed {s} {t} {u} {n} {m} {ys} e is first rest = part (expr_tokens (placed m e (neat_expr e))) (first ∙ ap (λ n. put_all s (expr_tokens (placed n e (neat_expr e)))) is) rest
 
 pub last_placed : {s t : Sheet} {n m : ℕ} (e : Expr) → n ≡ m → t ≡ put_all s (expr_tokens (placed n e (neat_expr e))) → Leads s (expr_tokens (placed m e (neat_expr e))) t
 last_placed {s} {t} {n} {m} e is at = record { is = at ∙ ap (λ n. put_all s (expr_tokens (placed n e (neat_expr e)))) is }
+
+-- an expression in a pair or without, which is another by the words of `Neat`
+pub part_as : {s t u : Sheet} {a b : Expr} {ys : List Written} → a ≡ b → t ≡ put_all s (expr_tokens a) → Leads t ys u → Leads s (expr_tokens b ++ ys) u
+part_as {s} {t} {u} {a} {b} {ys} is first rest = part (expr_tokens b) (first ∙ ap (λ e. put_all s (expr_tokens e)) is) rest
+
+pub last_as : {s t : Sheet} {a b : Expr} → a ≡ b → t ≡ put_all s (expr_tokens a) → Leads s (expr_tokens b) t
+last_as {s} {t} {a} {b} is at = record { is = at ∙ ap (λ e. put_all s (expr_tokens e)) is }
 
 -- a step that failed promises nothing
 pub failed : {E : Type 0} (r : Result (Unit {0}) E) (P : Type 0) → IsErr r → OnOk r P

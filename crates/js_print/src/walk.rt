@@ -137,7 +137,8 @@ fn expression(to: &mut Sheet, expr: &Expr) -> Result<(), Memory>
         }
         ExprNode::Logical(operator, left, right) => {
             to.begin(loc);
-            paired(to, stands_in_pair(*operator, left.get()), left.get())?;
+            let left = left.get();
+            paired(to, stands_in_pair(*operator, left), left)?;
             put_logical_sign(to, loc, *operator)?;
             placed(to, logical_right(*operator), right.get())?;
         }
@@ -492,7 +493,8 @@ fn statement(to: &mut Sheet, stmt: &Stmt) -> Result<(), Memory>
         }
         StmtNode::Empty => to.last_mark(loc, Punctuator::Semicolon)?,
         StmtNode::Expression(expr) => {
-            paired(to, stands_in_pair_as_statement(expr.get()), expr.get())?;
+            let expr = expr.get();
+            paired(to, stands_in_pair_as_statement(expr), expr)?;
             to.last_mark(loc, Punctuator::Semicolon)?;
         }
         StmtNode::If(test, then, otherwise) => {
@@ -670,7 +672,10 @@ fn for_init(to: &mut Sheet, loc: Option<Loc>, init: &ForInit) -> Result<(), Memo
             put_variable_word(to, loc, *kind)?;
             declarators(to, loc, true, declared.as_slice())?;
         }
-        ForInit::InitExpression(expr) => paired(to, has_bare_in(expr.get()), expr.get())?,
+        ForInit::InitExpression(expr) => {
+            let expr = expr.get();
+            paired(to, has_bare_in(expr), expr)?;
+        }
     }
     Ok(())
 }

@@ -1,3 +1,4 @@
+pub mod Forms
 pub mod Lasts
 pub mod Puts
 pub mod Openings

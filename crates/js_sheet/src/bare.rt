@@ -5,7 +5,7 @@ ghost use Rattle.js_sheet.specs.Openings as spec;
 
 use crate::first::{stands_in_pair, stands_in_pair_as_body};
 use crate::level::{is_looser, left_level, logical_right, right_level};
-use js_tree::{BinaryOperator, ConciseBody, Expr, ExprNode};
+use js_tree::{BinaryOperator, ConciseBody, Expr, ExprNode, LogicalOperator};
 
 /// Whether an operator is `in`.
 fn is_in(operator: BinaryOperator) -> bool
@@ -24,52 +24,71 @@ pub fn has_bare_in(expr: &Expr) -> bool
     match &expr.node {
         ExprNode::Parenthesized(inner) => has_bare_in(inner.get()),
         ExprNode::Binary(operator, left, right) => {
-            is_in(*operator)
-                || has_bare_in_part(left.get(), left_level(*operator))
-                || has_bare_in_part(right.get(), right_level(*operator))
+            let on_left = has_bare_in_part(left.get(), left_level(*operator));
+            let on_right = has_bare_in_part(right.get(), right_level(*operator));
+            is_in(*operator) | (on_left | on_right)
         }
         ExprNode::Logical(operator, left, right) => {
-            (!stands_in_pair(*operator, left.get()) && has_bare_in(left.get()))
-                || has_bare_in_part(right.get(), logical_right(*operator))
+            let on_left = has_bare_in_left(*operator, left.get());
+            let on_right = has_bare_in_part(right.get(), logical_right(*operator));
+            on_left | on_right
         }
         ExprNode::Conditional(test, _, otherwise) => {
-            has_bare_in_part(test.get(), 4) || has_bare_in_part(otherwise.get(), 2)
+            let in_test = has_bare_in_part(test.get(), 4);
+            let in_otherwise = has_bare_in_part(otherwise.get(), 2);
+            in_test | in_otherwise
         }
         ExprNode::Assignment(_, _, value) => has_bare_in_part(value.get(), 2),
-        ExprNode::Comma(left, right) => has_bare_in(left.get()) || has_bare_in_part(right.get(), 2),
-        ExprNode::Unary(_, operand) | ExprNode::PrefixUpdate(_, operand) => {
-            has_bare_in_part(operand.get(), 16)
+        ExprNode::Comma(left, right) => {
+            let on_left = has_bare_in(left.get());
+            let on_right = has_bare_in_part(right.get(), 2);
+            on_left | on_right
         }
+        ExprNode::PrefixUpdate(_, operand) => has_bare_in_part(operand.get(), 16),
+        ExprNode::Unary(_, operand) => has_bare_in_part(operand.get(), 16),
         ExprNode::ArrowFunction(_, body) => match body.get() {
-            ConciseBody::ExpressionBody(value) => {
-                !stands_in_pair_as_body(value) && has_bare_in(value)
-            }
+            ConciseBody::ExpressionBody(value) => has_bare_in_as_body(value),
             ConciseBody::BlockBody(_) => false,
         },
-        ExprNode::IdentifierReference(_)
-        | ExprNode::This
-        | ExprNode::NullLiteral
-        | ExprNode::BooleanLiteral(_)
-        | ExprNode::NumericLiteral(_)
-        | ExprNode::StringLiteral(_)
-        | ExprNode::ArrayLiteral(_)
-        | ExprNode::ObjectLiteral(_)
-        | ExprNode::FunctionExpression(_, _)
-        | ExprNode::RegularExpressionLiteral(_, _)
-        | ExprNode::TemplateLiteral(_, _)
-        | ExprNode::NamedMember(_, _)
-        | ExprNode::ComputedMember(_, _)
-        | ExprNode::New(_, _)
-        | ExprNode::Call(_, _)
-        | ExprNode::PostfixUpdate(_, _) => false,
+        ExprNode::IdentifierReference(_) => false,
+        ExprNode::This => false,
+        ExprNode::NullLiteral => false,
+        ExprNode::BooleanLiteral(_) => false,
+        ExprNode::NumericLiteral(_) => false,
+        ExprNode::StringLiteral(_) => false,
+        ExprNode::ArrayLiteral(_) => false,
+        ExprNode::ObjectLiteral(_) => false,
+        ExprNode::FunctionExpression(_, _) => false,
+        ExprNode::RegularExpressionLiteral(_, _) => false,
+        ExprNode::TemplateLiteral(_, _) => false,
+        ExprNode::NamedMember(_, _) => false,
+        ExprNode::ComputedMember(_, _) => false,
+        ExprNode::New(_, _) => false,
+        ExprNode::Call(_, _) => false,
+        ExprNode::PostfixUpdate(_, _) => false,
     }
 }
 
 /// The same of a part whose place asks for a level.
 #[cycle(bare)]
-#[tactic(auto, using(js_tree::proofs::Equations::tree_rules))]
 fn has_bare_in_part(expr: &Expr, least: u8) -> bool
     ensures { result ≡ (not (nat_lt (neat.level (plain_expr expr.now)) least) && spec.bares (plain_expr expr.now)) }
 {
     !is_looser(expr, least) && has_bare_in(expr)
+}
+
+/// The same of the left operand of a logical operator.
+#[cycle(bare)]
+fn has_bare_in_left(operator: LogicalOperator, left: &Expr) -> bool
+    ensures { result ≡ (not (spec.left_in_pair operator (plain_expr left.now)) && spec.bares (plain_expr left.now)) }
+{
+    !stands_in_pair(operator, left) && has_bare_in(left)
+}
+
+/// The same of the body of an arrow.
+#[cycle(bare)]
+fn has_bare_in_as_body(expr: &Expr) -> bool
+    ensures { result ≡ (not (spec.body_in_pair (plain_expr expr.now)) && spec.bares (plain_expr expr.now)) }
+{
+    !stands_in_pair_as_body(expr) && has_bare_in(expr)
 }

@@ -22,11 +22,11 @@ fn opens_with(expr: &Expr) -> Opening
         ExprNode::ObjectLiteral(_) => Opening::Brace,
         ExprNode::FunctionExpression(_, _) => Opening::Function,
         ExprNode::Parenthesized(inner) => opens_with(inner.get()),
-        ExprNode::NamedMember(operand, _)
-        | ExprNode::ComputedMember(operand, _)
-        | ExprNode::Call(operand, _)
-        | ExprNode::PostfixUpdate(_, operand)
-        | ExprNode::Assignment(_, operand, _) => part_opens_with(operand.get(), 20),
+        ExprNode::NamedMember(object, _) => part_opens_with(object.get(), 20),
+        ExprNode::ComputedMember(object, _) => part_opens_with(object.get(), 20),
+        ExprNode::Call(callee, _) => part_opens_with(callee.get(), 20),
+        ExprNode::PostfixUpdate(_, operand) => part_opens_with(operand.get(), 20),
+        ExprNode::Assignment(_, target, _) => part_opens_with(target.get(), 20),
         ExprNode::Binary(operator, left, _) => part_opens_with(left.get(), left_level(*operator)),
         ExprNode::Logical(operator, left, _) => if stands_in_pair(*operator, left.get()) {
             Opening::Other
@@ -35,18 +35,18 @@ fn opens_with(expr: &Expr) -> Opening
         },
         ExprNode::Conditional(test, _, _) => part_opens_with(test.get(), 4),
         ExprNode::Comma(left, _) => opens_with(left.get()),
-        ExprNode::This
-        | ExprNode::NullLiteral
-        | ExprNode::BooleanLiteral(_)
-        | ExprNode::NumericLiteral(_)
-        | ExprNode::StringLiteral(_)
-        | ExprNode::ArrayLiteral(_)
-        | ExprNode::ArrowFunction(_, _)
-        | ExprNode::RegularExpressionLiteral(_, _)
-        | ExprNode::TemplateLiteral(_, _)
-        | ExprNode::New(_, _)
-        | ExprNode::PrefixUpdate(_, _)
-        | ExprNode::Unary(_, _) => Opening::Other,
+        ExprNode::This => Opening::Other,
+        ExprNode::NullLiteral => Opening::Other,
+        ExprNode::BooleanLiteral(_) => Opening::Other,
+        ExprNode::NumericLiteral(_) => Opening::Other,
+        ExprNode::StringLiteral(_) => Opening::Other,
+        ExprNode::ArrayLiteral(_) => Opening::Other,
+        ExprNode::ArrowFunction(_, _) => Opening::Other,
+        ExprNode::RegularExpressionLiteral(_, _) => Opening::Other,
+        ExprNode::TemplateLiteral(_, _) => Opening::Other,
+        ExprNode::New(_, _) => Opening::Other,
+        ExprNode::PrefixUpdate(_, _) => Opening::Other,
+        ExprNode::Unary(_, _) => Opening::Other,
     }
 }
 

@@ -107,24 +107,26 @@ pub fn is_looser(expr: &Expr, least: u8) -> bool
         }
         ExprNode::New(_, _) => least > 21,
         ExprNode::Call(_, _) => least > 20,
-        ExprNode::PostfixUpdate(_, _) | ExprNode::PrefixUpdate(_, _) => least > 17,
+        ExprNode::PostfixUpdate(_, _) => least > 17,
+        ExprNode::PrefixUpdate(_, _) => least > 17,
         ExprNode::Unary(_, _) => least > 16,
         ExprNode::Binary(operator, _, _) => least > binary_level(*operator),
         ExprNode::Logical(operator, _, _) => least > logical_level(*operator),
         ExprNode::Conditional(_, _, _) => least > 3,
-        ExprNode::Assignment(_, _, _) | ExprNode::ArrowFunction(_, _) => least > 2,
+        ExprNode::Assignment(_, _, _) => least > 2,
+        ExprNode::ArrowFunction(_, _) => least > 2,
         ExprNode::Comma(_, _) => least > 1,
-        ExprNode::IdentifierReference(_)
-        | ExprNode::This
-        | ExprNode::NullLiteral
-        | ExprNode::BooleanLiteral(_)
-        | ExprNode::NumericLiteral(_)
-        | ExprNode::StringLiteral(_)
-        | ExprNode::ArrayLiteral(_)
-        | ExprNode::ObjectLiteral(_)
-        | ExprNode::FunctionExpression(_, _)
-        | ExprNode::RegularExpressionLiteral(_, _)
-        | ExprNode::TemplateLiteral(_, _) => least > 22,
+        ExprNode::IdentifierReference(_) => least > 22,
+        ExprNode::This => least > 22,
+        ExprNode::NullLiteral => least > 22,
+        ExprNode::BooleanLiteral(_) => least > 22,
+        ExprNode::NumericLiteral(_) => least > 22,
+        ExprNode::StringLiteral(_) => least > 22,
+        ExprNode::ArrayLiteral(_) => least > 22,
+        ExprNode::ObjectLiteral(_) => least > 22,
+        ExprNode::FunctionExpression(_, _) => least > 22,
+        ExprNode::RegularExpressionLiteral(_, _) => least > 22,
+        ExprNode::TemplateLiteral(_, _) => least > 22,
     }
 }
 

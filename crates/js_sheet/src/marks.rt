@@ -10,7 +10,8 @@ use js_text::Cursor;
 use js_tree::Pos;
 use std::alloc::Global;
 
-/// The marks of a text, each by how many bytes stand before it, with their places.
+/// The marks of a text, each by how many bytes stand before it, with their places. The numbers of
+/// bytes ascend, so that one pass through the text places all.
 pub fn place_marks(
     alloc: Global,
     text: &str,

@@ -31,30 +31,30 @@ fn place_of(expr: &Expr) -> Option<Loc>
 {
     match &expr.node {
         ExprNode::Parenthesized(inner) => place_of(inner.get()),
-        ExprNode::IdentifierReference(_)
-        | ExprNode::This
-        | ExprNode::NullLiteral
-        | ExprNode::BooleanLiteral(_)
-        | ExprNode::NumericLiteral(_)
-        | ExprNode::StringLiteral(_)
-        | ExprNode::ArrayLiteral(_)
-        | ExprNode::ObjectLiteral(_)
-        | ExprNode::FunctionExpression(_, _)
-        | ExprNode::ArrowFunction(_, _)
-        | ExprNode::RegularExpressionLiteral(_, _)
-        | ExprNode::TemplateLiteral(_, _)
-        | ExprNode::NamedMember(_, _)
-        | ExprNode::ComputedMember(_, _)
-        | ExprNode::New(_, _)
-        | ExprNode::Call(_, _)
-        | ExprNode::PostfixUpdate(_, _)
-        | ExprNode::PrefixUpdate(_, _)
-        | ExprNode::Unary(_, _)
-        | ExprNode::Binary(_, _, _)
-        | ExprNode::Logical(_, _, _)
-        | ExprNode::Conditional(_, _, _)
-        | ExprNode::Assignment(_, _, _)
-        | ExprNode::Comma(_, _) => expr.loc,
+        ExprNode::IdentifierReference(_) => expr.loc,
+        ExprNode::This => expr.loc,
+        ExprNode::NullLiteral => expr.loc,
+        ExprNode::BooleanLiteral(_) => expr.loc,
+        ExprNode::NumericLiteral(_) => expr.loc,
+        ExprNode::StringLiteral(_) => expr.loc,
+        ExprNode::ArrayLiteral(_) => expr.loc,
+        ExprNode::ObjectLiteral(_) => expr.loc,
+        ExprNode::FunctionExpression(_, _) => expr.loc,
+        ExprNode::ArrowFunction(_, _) => expr.loc,
+        ExprNode::RegularExpressionLiteral(_, _) => expr.loc,
+        ExprNode::TemplateLiteral(_, _) => expr.loc,
+        ExprNode::NamedMember(_, _) => expr.loc,
+        ExprNode::ComputedMember(_, _) => expr.loc,
+        ExprNode::New(_, _) => expr.loc,
+        ExprNode::Call(_, _) => expr.loc,
+        ExprNode::PostfixUpdate(_, _) => expr.loc,
+        ExprNode::PrefixUpdate(_, _) => expr.loc,
+        ExprNode::Unary(_, _) => expr.loc,
+        ExprNode::Binary(_, _, _) => expr.loc,
+        ExprNode::Logical(_, _, _) => expr.loc,
+        ExprNode::Conditional(_, _, _) => expr.loc,
+        ExprNode::Assignment(_, _, _) => expr.loc,
+        ExprNode::Comma(_, _) => expr.loc,
     }
 }
 

@@ -1,16 +1,19 @@
-use Rattle.std.proofs.Common.{◌≡◌, ◌∙◌, ◌+◌, drop, sym, ap, arith}
-use Rattle.js_tree.specs.declared.tree.ConciseBody.TheViews.{out-Expr, out-Stmt}
-use Rattle.js_tree.specs.Tree.{plain_expr, plain_exprs, plain_expr_if, plain_property, plain_properties, plain_param, plain_params, plain_concise_body, plain_declarator, plain_declarators, plain_stmt, plain_stmts, plain_stmt_if, plain_for_init, plain_for_target, plain_case, plain_cases, plain_catch, plain_template_part, plain_template_parts}
+use Rattle.std.proofs.Common.{OnOk, subst, true, ◌≡◌, ◌∙◌, ◌+◌, drop, sym, ap, arith}
+use Rattle.js_tree.specs.declared.tree.ConciseBody.TheViews.{out-Case, out-Property, out-Function, out-Expr, out-Stmt}
+use Rattle.js_tree.specs.Tree.{plain_function, plain_function_body, plain_property_key, plain_pattern, plain_expr, plain_exprs, plain_expr_if, plain_property, plain_properties, plain_param, plain_params, plain_concise_body, plain_declarator, plain_declarators, plain_stmt, plain_stmts, plain_stmt_if, plain_for_init, plain_for_target, plain_case, plain_cases, plain_catch, plain_template_part, plain_template_parts}
 use Rattle.js_tree.specs.Plain as tree
 use Rattle.js_tree.proofs.Equations.{tree_rules}
 use Rattle.js_text.specs.declared.punctuator.Punctuator.TheVariants as P
 use Rattle.js_reading.specs.Level.{left_level}
-use Rattle.js_layout.specs.Tokens.{mark, braced, in_parentheses, expr_tokens, more_exprs_tokens, property_tokens, more_properties_tokens, param_tokens, more_params_tokens, declarator_tokens, more_declarators_tokens, stmt_tokens, stmts_tokens, case_tokens, cases_tokens, parts_tokens}
-use Rattle.js_layout.specs.Neat.{placed, neat_expr, neat_exprs, neat_property, neat_properties, neat_params, neat_declarators, neat_stmt, neat_stmts, neat_case, neat_cases, neat_parts}
-use Rattle.js_print.specs.Parts.{neat_param, neat_declarator}
-use Rattle.js_sheet.specs.Sheets.{put_all}
-use Rattle.js_print.proofs.Lists.{put_step, put_more, next_expr, next_property, next_param, next_declarator, next_stmt, next_case, put_part, next_template_part, expressions_cut, properties_cut, params_cut, declarators_cut}
-use Rattle.js_print.proofs.Steps.{one, two, part, last, last_one, of_expr, of_stmt, begins_one, begins_expr, part_placed, last_placed, failed}
+use Rattle.js_layout.specs.Tokens.{word, concise_tokens, begun, pair_of, else_tokens, key_tokens, function_tokens, maybe_tokens, init_tokens, target_tokens, initializer_tokens, mark, braced, in_parentheses, expr_tokens, more_exprs_tokens, property_tokens, more_properties_tokens, param_tokens, more_params_tokens, declarator_tokens, more_declarators_tokens, stmt_tokens, stmts_tokens, case_tokens, cases_tokens, parts_tokens}
+use Rattle.js_layout.specs.Neat.{neat_concise, paired, left_operand, as_statement, neat_else, neat_function, neat_maybe, neat_key, neat_init, neat_target, neat_initializer, placed, neat_expr, neat_exprs, neat_property, neat_properties, neat_params, neat_declarators, neat_stmt, neat_stmts, neat_case, neat_cases, neat_parts}
+use Rattle.js_print.specs.Parts.{neat_param, neat_declarator, test_tokens}
+use Rattle.js_sheet.specs.Pairs.{own_pair}
+use Rattle.js_sheet.specs.Sheets.{put, put_all}
+use Rattle.js_sheet.proofs.Puts.{paired_true}
+use Rattle.js_sheet.proofs.Openings.{left_pair, statement_is, body_is, bares_is}
+use Rattle.js_print.proofs.Lists.{case_begins, put_step, put_more, next_expr, next_property, next_param, next_declarator, next_stmt, next_case, put_part, next_template_part, expressions_cut, properties_cut, params_cut, declarators_cut}
+use Rattle.js_print.proofs.Steps.{one, two, part, last, last_one, of_expr, of_stmt, of_form, begins_key, begins_one, begins_expr, part_as, last_as, none, part_placed, last_placed, failed}
 use Rattle.js_print.proofs.walk.+print.Goals as goal
 
 pub expressions-loop-item-preserved : goal.expressions-loop-item-preserved
@@ -143,8 +146,8 @@ statement-returns-in_ok-last_mark-in-VariableDeclaration t c =
 pub statement-returns-in_ok-else_part-in-If : goal.statement-returns-in_ok-else_part-in-If
 statement-returns-in_ok-else_part-in-If t c =
     let l = (out-Stmt c.args.stmt.now).loc in
-    let is : plain_stmt c.args.stmt.now ≡ tree.If l (plain_expr c.get-in-If.result.now) (plain_stmt c.get-in-If-2.result.now) (plain_stmt_if c.in-If.otherwise) = grind (arith, tree_rules) in
-    of_stmt is (begins_one l c.begin.ensures (one c.in_ok-word-in-If.ensures (part (in_parentheses l (expr_tokens (neat_expr (plain_expr c.get-in-If.result.now)))) c.in_ok-tested-in-If.ensures (part (stmt_tokens (neat_stmt (plain_stmt c.get-in-If-2.result.now))) c.in_ok-statement-in-If.ensures (last c.in_ok-else_part-in-If.ensures)))))
+    let is : plain_stmt c.args.stmt.now ≡ tree.If l (plain_expr c.get.result.now) (plain_stmt c.get-in-If.result.now) (plain_stmt_if c.in-If.otherwise) = grind (arith, tree_rules) in
+    of_stmt is (begins_one l c.begin.ensures (one c.in_ok-word-in-If.ensures (part (in_parentheses l (expr_tokens (neat_expr (plain_expr c.get.result.now)))) c.in_ok-tested-in-If.ensures (part (stmt_tokens (neat_stmt (plain_stmt c.get-in-If.result.now))) c.in_ok-statement-in-If.ensures (last c.in_ok-else_part-in-If.ensures)))))
 
 pub statement-returns-in_ok-last_mark-in-DoWhile : goal.statement-returns-in_ok-last_mark-in-DoWhile
 statement-returns-in_ok-last_mark-in-DoWhile t c =
@@ -224,70 +227,216 @@ statement-returns-in_ok-block-in-TryCatchFinally-2 t c =
     let is : plain_stmt c.args.stmt.now ≡ tree.TryCatchFinally l (plain_stmts c.as_slice-in-TryCatchFinally.result.now) (plain_catch c.get-in-TryCatchFinally.result.now) (plain_stmts c.as_slice-in-TryCatchFinally-2.result.now) = grind (arith, tree_rules) in
     of_stmt is (begins_one l c.begin.ensures (one c.in_ok-word-in-TryCatchFinally.ensures (part (braced l (stmts_tokens (neat_stmts (plain_stmts c.as_slice-in-TryCatchFinally.result.now)))) c.in_ok-block-in-TryCatchFinally.ensures (part _ c.in_ok-catch-in-TryCatchFinally.ensures (one c.in_ok-word-in-TryCatchFinally-2.ensures (last c.in_ok-block-in-TryCatchFinally-2.ensures))))))
 
--- ---- a step that fails
+pub property-returns-in_ok-placed-in-KeyValue : goal.property-returns-in_ok-placed-in-KeyValue
+property-returns-in_ok-placed-in-KeyValue t c =
+    let l = (out-Property c.args.property.now).loc in
+    let is : plain_property c.args.property.now ≡ tree.KeyValue l (plain_property_key c.in-KeyValue.key) (plain_expr c.get.result.now) = grind (arith, tree_rules) in
+    of_form (λ p. property_tokens (neat_property p)) is (part _ c.in_ok-property_key-in-KeyValue.ensures (one c.in_ok-mark-in-KeyValue.ensures (last c.in_ok-placed-in-KeyValue.ensures)))
 
-pub expression-returns-in_err-word-in-IdentifierReference : goal.expression-returns-in_err-word-in-IdentifierReference
-expression-returns-in_err-word-in-IdentifierReference t c = failed _ _ c.from_residual.ensures.0
+pub property-returns-in_ok-function-in-Method : goal.property-returns-in_ok-function-in-Method
+property-returns-in_ok-function-in-Method t c =
+    let l = (out-Property c.args.property.now).loc in
+    let is : plain_property c.args.property.now ≡ tree.Method l (plain_property_key c.in-Method.key) (plain_function c.get-in-Method.result.now) = grind (arith, tree_rules) in
+    of_form (λ p. property_tokens (neat_property p)) is (begins_key l l (neat_key (plain_property_key c.in-Method.key)) _ c.begin-in-Method.ensures (part (key_tokens l (neat_key (plain_property_key c.in-Method.key))) c.in_ok-property_key-in-Method.ensures (last c.in_ok-function-in-Method.ensures)))
 
-pub expression-returns-in_err-word-in-This : goal.expression-returns-in_err-word-in-This
-expression-returns-in_err-word-in-This t c = failed _ _ c.from_residual-in_err-word-in-This.ensures.0
+pub maybe-returns-in-Some : goal.maybe-returns-in-Some
+maybe-returns-in-Some t c =
+    let is : plain_expr_if c.args.value.now ≡ tree.some_expr (plain_expr c.get.result.now) = grind (arith, tree_rules) in
+    subst (λ m. OnOk c.expression.result (c.expression.new.to ≡ put_all c.args.to.now (maybe_tokens (neat_maybe m)))) (sym is) c.expression.ensures
 
-pub expression-returns-in_err-word-in-NullLiteral : goal.expression-returns-in_err-word-in-NullLiteral
-expression-returns-in_err-word-in-NullLiteral t c = failed _ _ c.from_residual-in_err-word-in-NullLiteral.ensures.0
+pub function-returns : goal.function-returns
+function-returns t c =
+    let is : plain_function c.args.function.now ≡ tree.MakeFunction 0 (plain_params c.as_slice.result.now) (plain_function_body (out-Function c.args.function.now).body) = grind (arith, tree_rules) in
+    of_form (λ f. function_tokens c.args.loc (neat_function f)) is (one c.in_ok-mark.ensures (part _ c.in_ok-params.ensures (one c.in_ok-mark-2.ensures (last c.in_ok-function_body.ensures))))
 
-pub expression-returns-in_err-word-in-BooleanLiteral : goal.expression-returns-in_err-word-in-BooleanLiteral
-expression-returns-in_err-word-in-BooleanLiteral t c = failed _ _ c.from_residual-in_err-word-in-BooleanLiteral.ensures.0
+pub block-returns : goal.block-returns
+block-returns t c = (one c.in_ok-last_mark.ensures (part (stmts_tokens (neat_stmts (plain_stmts c.args.statements_in.now))) c.in_ok-statements.ensures (last_one c.in_ok-last_mark-2.ensures))).is
 
-pub expression-returns-in_err-number-in-NumericLiteral : goal.expression-returns-in_err-number-in-NumericLiteral
-expression-returns-in_err-number-in-NumericLiteral t c = failed _ _ c.from_residual-in_err-number-in-NumericLiteral.ensures.0
+pub else_part-returns-in_ok-statement-in-Some : goal.else_part-returns-in_ok-statement-in-Some
+else_part-returns-in_ok-statement-in-Some t c =
+    let is : plain_stmt_if c.args.otherwise.now ≡ tree.some_stmt (plain_stmt c.get.result.now) = grind (arith, tree_rules) in
+    of_form (λ r. else_tokens c.args.loc (neat_else r)) is (one c.in_ok-word-in-Some.ensures (last c.in_ok-statement-in-Some.ensures))
 
-pub expression-returns-in_err-literal-in-StringLiteral : goal.expression-returns-in_err-literal-in-StringLiteral
-expression-returns-in_err-literal-in-StringLiteral t c = failed _ _ c.from_residual-in_err-literal-in-StringLiteral.ensures.0
+pub in_pair-returns : goal.in_pair-returns
+in_pair-returns t c =
+    let e = plain_expr c.args.expr.now in
+    let own = c.own_place.ensures in
+    let place = c.pair_place-loc.ensures in
+    let there : expr_tokens (paired true e (neat_expr e)) ≡ begun c.own_place.result (in_parentheses c.pair_place-loc.result (expr_tokens (neat_expr e))) = ap expr_tokens (paired_true e (neat_expr e)) ∙ ap (λ l. begun l (in_parentheses (pair_of (own_pair e) (neat_expr e)) (expr_tokens (neat_expr e)))) (sym own) ∙ ap (λ l. begun c.own_place.result (in_parentheses l (expr_tokens (neat_expr e)))) (sym place) in
+    of_form (λ ts. ts) there (begins_one c.own_place.result c.begin.ensures (one c.in_ok-mark.ensures (part _ c.in_ok-expression.ensures (last_one c.in_ok-mark-2.ensures))))
 
-pub expression-returns-in_err-mark-in-ArrayLiteral : goal.expression-returns-in_err-mark-in-ArrayLiteral
-expression-returns-in_err-mark-in-ArrayLiteral t c = failed _ _ c.from_residual-in_err-mark-in-ArrayLiteral.ensures.0
+pub expression-returns-in_ok-word-in-This : goal.expression-returns-in_ok-word-in-This
+expression-returns-in_ok-word-in-This t c =
+    let l = (out-Expr c.args.expr.now).loc in
+    let is : plain_expr c.args.expr.now ≡ tree.This l = grind (arith, tree_rules) in
+    of_expr is (begins_one l c.begin-in-This.ensures (last_one c.in_ok-word-in-This.ensures))
 
-pub expression-returns-in_err-expressions-in-ArrayLiteral : goal.expression-returns-in_err-expressions-in-ArrayLiteral
-expression-returns-in_err-expressions-in-ArrayLiteral t c = failed _ _ c.from_residual-in_err-expressions-in-ArrayLiteral.ensures.0
+pub expression-returns-in_ok-word-in-NullLiteral : goal.expression-returns-in_ok-word-in-NullLiteral
+expression-returns-in_ok-word-in-NullLiteral t c =
+    let l = (out-Expr c.args.expr.now).loc in
+    let is : plain_expr c.args.expr.now ≡ tree.NullLiteral l = grind (arith, tree_rules) in
+    of_expr is (begins_one l c.begin-in-NullLiteral.ensures (last_one c.in_ok-word-in-NullLiteral.ensures))
 
-pub expression-returns-in_err-mark-in-ArrayLiteral-2 : goal.expression-returns-in_err-mark-in-ArrayLiteral-2
-expression-returns-in_err-mark-in-ArrayLiteral-2 t c = failed _ _ c.from_residual-in_err-mark-in-ArrayLiteral-2.ensures.0
+pub expression-returns-in_ok-function_expression-in-FunctionExpression : goal.expression-returns-in_ok-function_expression-in-FunctionExpression
+expression-returns-in_ok-function_expression-in-FunctionExpression t c =
+    let l = (out-Expr c.args.expr.now).loc in
+    let is : plain_expr c.args.expr.now ≡ tree.FunctionExpression l c.in-FunctionExpression.name (plain_function c.get.result.now) = grind (arith, tree_rules) in
+    of_expr is (begins_one l c.begin-in-FunctionExpression.ensures (last c.in_ok-function_expression-in-FunctionExpression.ensures))
 
-pub expression-returns-in_err-mark-in-ObjectLiteral : goal.expression-returns-in_err-mark-in-ObjectLiteral
-expression-returns-in_err-mark-in-ObjectLiteral t c = failed _ _ c.from_residual-in_err-mark-in-ObjectLiteral.ensures.0
+pub expression-returns-in_ok-expression-in-Parenthesized : goal.expression-returns-in_ok-expression-in-Parenthesized
+expression-returns-in_ok-expression-in-Parenthesized t c =
+    let l = (out-Expr c.args.expr.now).loc in
+    let is : plain_expr c.args.expr.now ≡ tree.Parenthesized l (plain_expr c.get-in-Parenthesized.result.now) = grind (arith, tree_rules) in
+    of_expr is (last c.in_ok-expression-in-Parenthesized.ensures)
 
-pub expression-returns-in_err-properties-in-ObjectLiteral : goal.expression-returns-in_err-properties-in-ObjectLiteral
-expression-returns-in_err-properties-in-ObjectLiteral t c = failed _ _ c.from_residual-in_err-properties-in-ObjectLiteral.ensures.0
+pub expression-returns-in_ok-placed-in-Logical : goal.expression-returns-in_ok-placed-in-Logical
+expression-returns-in_ok-placed-in-Logical t c =
+    let l = (out-Expr c.args.expr.now).loc in
+    let x = plain_expr c.get-left.result.now in
+    let is : plain_expr c.args.expr.now ≡ tree.Logical l c.in-Logical.operator x (plain_expr c.get-in-Logical.result.now) = grind (arith, tree_rules) in
+    of_expr is (begins_expr l (left_operand c.in-Logical.operator x (neat_expr x)) _ c.begin-in-Logical.ensures (part_as (ap (λ b. paired b x (neat_expr x)) c.stands_in_pair.ensures ∙ sym (left_pair c.in-Logical.operator x)) c.in_ok-paired-in-Logical.ensures (one c.in_ok-put_logical_sign-in-Logical.ensures (last_placed (plain_expr c.get-in-Logical.result.now) c.logical_right.ensures c.in_ok-placed-in-Logical.ensures))))
 
-pub expression-returns-in_err-mark-in-ObjectLiteral-2 : goal.expression-returns-in_err-mark-in-ObjectLiteral-2
-expression-returns-in_err-mark-in-ObjectLiteral-2 t c = failed _ _ c.from_residual-in_err-mark-in-ObjectLiteral-2.ensures.0
+pub for_init-returns-in-NoInit : goal.for_init-returns-in-NoInit
+for_init-returns-in-NoInit t c =
+    let is : plain_for_init c.args.init.now ≡ tree.NoInit = grind (arith, tree_rules) in
+    of_form (λ i. init_tokens c.args.loc (neat_init i)) is (none)
 
-pub expression-returns-in_err-function_expression-in-FunctionExpression : goal.expression-returns-in_err-function_expression-in-FunctionExpression
-expression-returns-in_err-function_expression-in-FunctionExpression t c = failed _ _ c.from_residual-in_err-function_expression-in-FunctionExpression.ensures.0
+pub for_init-returns-in_ok-declarators-in-InitDeclaration : goal.for_init-returns-in_ok-declarators-in-InitDeclaration
+for_init-returns-in_ok-declarators-in-InitDeclaration t c =
+    let is : plain_for_init c.args.init.now ≡ tree.InitDeclaration c.in-InitDeclaration.kind (plain_declarators c.as_slice.result.now) = grind (arith, tree_rules) in
+    of_form (λ i. init_tokens c.args.loc (neat_init i)) is (one c.in_ok-put_variable_word-in-InitDeclaration.ensures (last c.in_ok-declarators-in-InitDeclaration.ensures))
 
-pub expression-returns-in_err-mark-in-ArrowFunction : goal.expression-returns-in_err-mark-in-ArrowFunction
-expression-returns-in_err-mark-in-ArrowFunction t c = failed _ _ c.from_residual-in_err-mark-in-ArrowFunction.ensures.0
+pub for_init-returns-in_ok-paired-in-InitExpression : goal.for_init-returns-in_ok-paired-in-InitExpression
+for_init-returns-in_ok-paired-in-InitExpression t c =
+    let e = plain_expr c.get-expr.result.now in
+    let is : plain_for_init c.args.init.now ≡ tree.InitExpression e = grind (arith, tree_rules) in
+    of_form (λ i. init_tokens c.args.loc (neat_init i)) is (last_as (ap (λ b. paired b e (neat_expr e)) (c.has_bare_in.ensures ∙ sym (bares_is e))) c.in_ok-paired-in-InitExpression.ensures)
 
-pub expression-returns-in_err-params-in-ArrowFunction : goal.expression-returns-in_err-params-in-ArrowFunction
-expression-returns-in_err-params-in-ArrowFunction t c = failed _ _ c.from_residual-in_err-params-in-ArrowFunction.ensures.0
+pub for_target-returns-in_ok-pattern-in-TargetDeclaration : goal.for_target-returns-in_ok-pattern-in-TargetDeclaration
+for_target-returns-in_ok-pattern-in-TargetDeclaration t c =
+    let is : plain_for_target c.args.target.now ≡ tree.TargetDeclaration c.in-TargetDeclaration.kind (plain_pattern c.in-TargetDeclaration.bound) = grind (arith, tree_rules) in
+    of_form (λ x. target_tokens c.args.loc (neat_target x)) is (one c.in_ok-put_variable_word-in-TargetDeclaration.ensures (last c.in_ok-pattern-in-TargetDeclaration.ensures))
 
-pub expression-returns-in_err-mark-in-ArrowFunction-2 : goal.expression-returns-in_err-mark-in-ArrowFunction-2
-expression-returns-in_err-mark-in-ArrowFunction-2 t c = failed _ _ c.from_residual-in_err-mark-in-ArrowFunction-2.ensures.0
+pub for_target-returns-in_ok-expression-in-TargetExpression : goal.for_target-returns-in_ok-expression-in-TargetExpression
+for_target-returns-in_ok-expression-in-TargetExpression t c =
+    let is : plain_for_target c.args.target.now ≡ tree.TargetExpression (plain_expr c.get.result.now) = grind (arith, tree_rules) in
+    of_form (λ x. target_tokens c.args.loc (neat_target x)) is (last c.in_ok-expression-in-TargetExpression.ensures)
 
-pub expression-returns-in_err-mark-in-ArrowFunction-3 : goal.expression-returns-in_err-mark-in-ArrowFunction-3
-expression-returns-in_err-mark-in-ArrowFunction-3 t c = failed _ _ c.from_residual-in_err-mark-in-ArrowFunction-3.ensures.0
+pub property_key-returns-in_ok-word-in-NameKey : goal.property_key-returns-in_ok-word-in-NameKey
+property_key-returns-in_ok-word-in-NameKey t c =
+    let is : plain_property_key c.args.key.now ≡ tree.NameKey c.as_str.result.now = grind (arith, tree_rules) in
+    of_form (λ k. key_tokens c.args.loc (neat_key k)) is (last_one c.in_ok-word-in-NameKey.ensures)
 
-pub expression-returns-in_err-concise_body-in-ArrowFunction : goal.expression-returns-in_err-concise_body-in-ArrowFunction
-expression-returns-in_err-concise_body-in-ArrowFunction t c = failed _ _ c.from_residual-in_err-concise_body-in-ArrowFunction.ensures.0
+pub property_key-returns-in_ok-number-in-NumberKey : goal.property_key-returns-in_ok-number-in-NumberKey
+property_key-returns-in_ok-number-in-NumberKey t c =
+    let is : plain_property_key c.args.key.now ≡ tree.NumberKey c.as_str-in-NumberKey.result.now = grind (arith, tree_rules) in
+    of_form (λ k. key_tokens c.args.loc (neat_key k)) is (last_one c.in_ok-number-in-NumberKey.ensures)
 
-pub expression-returns-in_err-expression-in-RegularExpressionLiteral : goal.expression-returns-in_err-expression-in-RegularExpressionLiteral
-expression-returns-in_err-expression-in-RegularExpressionLiteral t c = failed _ _ c.from_residual-in_err-expression-in-RegularExpressionLiteral.ensures.0
+pub property_key-returns-in_ok-mark-in-ComputedKey-2 : goal.property_key-returns-in_ok-mark-in-ComputedKey-2
+property_key-returns-in_ok-mark-in-ComputedKey-2 t c =
+    let e = plain_expr c.get.result.now in
+    let is : plain_property_key c.args.key.now ≡ tree.ComputedKey e = grind (arith, tree_rules) in
+    of_form (λ k. key_tokens c.args.loc (neat_key k)) is (one c.in_ok-mark-in-ComputedKey.ensures (part (expr_tokens (placed 2 e (neat_expr e))) c.in_ok-placed-in-ComputedKey.ensures (last_one c.in_ok-mark-in-ComputedKey-2.ensures)))
 
-pub expression-returns-in_err-template-in-TemplateLiteral : goal.expression-returns-in_err-template-in-TemplateLiteral
-expression-returns-in_err-template-in-TemplateLiteral t c = failed _ _ c.from_residual-in_err-template-in-TemplateLiteral.ensures.0
+pub initializer-returns-in-None : goal.initializer-returns-in-None
+initializer-returns-in-None t c =
+    let is : plain_expr_if c.args.value.now ≡ tree.none_expr = grind (arith, tree_rules) in
+    of_form (λ m. initializer_tokens c.args.loc (neat_initializer c.args.head m)) is (none)
 
-pub expression-returns-in_err-expression-in-Parenthesized : goal.expression-returns-in_err-expression-in-Parenthesized
-expression-returns-in_err-expression-in-Parenthesized t c = failed _ _ c.from_residual-in_err-expression-in-Parenthesized.ensures.0
+pub statement-returns-in_ok-last_mark-in-Expression : goal.statement-returns-in_ok-last_mark-in-Expression
+statement-returns-in_ok-last_mark-in-Expression t c =
+    let l = (out-Stmt c.args.stmt.now).loc in
+    let e = plain_expr c.get-expr.result.now in
+    let is : plain_stmt c.args.stmt.now ≡ tree.Expression l e = grind (arith, tree_rules) in
+    of_stmt is (begins_expr l (as_statement e (neat_expr e)) _ c.begin.ensures (part_as (ap (λ b. paired b e (neat_expr e)) c.stands_in_pair_as_statement.ensures ∙ sym (statement_is e)) c.in_ok-paired-in-Expression.ensures (last_one c.in_ok-last_mark-in-Expression.ensures)))
+
+pub case-returns : goal.case-returns
+case-returns t c =
+    let l = (out-Case c.args.case.now).loc in
+    let e = plain_expr_if (out-Case c.args.case.now).test in
+    let ss = plain_stmts c.as_slice.result.now in
+    let is : plain_case c.args.case.now ≡ tree.MakeCase l e ss = grind (arith, tree_rules) in
+    of_form (λ ts. ts) (ap (λ k. case_tokens (neat_case k)) is ∙ case_begins l (neat_maybe e) (neat_stmts ss)) (part (test_tokens l (neat_maybe e)) c.in_ok-case_test.ensures (one c.in_ok-mark.ensures (last c.in_ok-statements.ensures)))
+
+pub case_test-returns-in_ok-word-in-None : goal.case_test-returns-in_ok-word-in-None
+case_test-returns-in_ok-word-in-None t c =
+    let is : plain_expr_if c.args.test.now ≡ tree.none_expr = grind (arith, tree_rules) in
+    of_form (λ e. test_tokens c.args.loc (neat_maybe e)) is (last_one c.in_ok-word-in-None.ensures)
+
+pub case_test-returns-in_ok-expression-in-Some : goal.case_test-returns-in_ok-expression-in-Some
+case_test-returns-in_ok-expression-in-Some t c =
+    let is : plain_expr_if c.args.test.now ≡ tree.some_expr (plain_expr c.get.result.now) = grind (arith, tree_rules) in
+    of_form (λ e. test_tokens c.args.loc (neat_maybe e)) is (one c.in_ok-word-in-Some.ensures (last c.in_ok-expression-in-Some.ensures))
+
+pub tested-returns : goal.tested-returns
+tested-returns t c =
+    (one c.in_ok-mark.ensures (part (expr_tokens (neat_expr (plain_expr c.args.test.now))) c.in_ok-expression.ensures (last_one c.in_ok-mark-2.ensures))).is
+
+pub else_part-returns-in-None : goal.else_part-returns-in-None
+else_part-returns-in-None t c =
+    let is : plain_stmt_if c.args.otherwise.now ≡ tree.none_stmt = grind (arith, tree_rules) in
+    of_form (λ r. else_tokens c.args.loc (neat_else r)) is (none)
+
+pub maybe-returns-in-None : goal.maybe-returns-in-None
+maybe-returns-in-None t c =
+    let is : plain_expr_if c.args.value.now ≡ tree.none_expr = grind (arith, tree_rules) in
+    of_form (λ e. maybe_tokens (neat_maybe e)) is (none)
+
+pub expression-returns-in_ok-word-in-IdentifierReference : goal.expression-returns-in_ok-word-in-IdentifierReference
+expression-returns-in_ok-word-in-IdentifierReference t c =
+    let l = (out-Expr c.args.expr.now).loc in
+    let is : plain_expr c.args.expr.now ≡ tree.IdentifierReference l c.as_str.result.now = grind (arith, tree_rules) in
+    of_expr is (begins_one l c.begin.ensures (last_one c.in_ok-word-in-IdentifierReference.ensures))
+
+pub expression-returns-in_ok-number-in-NumericLiteral : goal.expression-returns-in_ok-number-in-NumericLiteral
+expression-returns-in_ok-number-in-NumericLiteral t c =
+    let l = (out-Expr c.args.expr.now).loc in
+    let is : plain_expr c.args.expr.now ≡ tree.NumericLiteral l c.as_str-in-NumericLiteral.result.now = grind (arith, tree_rules) in
+    of_expr is (begins_one l c.begin-in-NumericLiteral.ensures (last_one c.in_ok-number-in-NumericLiteral.ensures))
+
+pub expression-returns-in_ok-word-in-NamedMember : goal.expression-returns-in_ok-word-in-NamedMember
+expression-returns-in_ok-word-in-NamedMember t c =
+    let l = (out-Expr c.args.expr.now).loc in
+    let x = plain_expr c.get-in-NamedMember.result.now in
+    let is : plain_expr c.args.expr.now ≡ tree.NamedMember l x c.as_str-in-NamedMember.result.now = grind (arith, tree_rules) in
+    of_expr is (begins_expr l (placed 20 x (neat_expr x)) _ c.begin-in-NamedMember.ensures (part (expr_tokens (placed 20 x (neat_expr x))) c.in_ok-placed-in-NamedMember.ensures (one c.in_ok-mark-in-NamedMember.ensures (last_one c.in_ok-word-in-NamedMember.ensures))))
+
+pub statement-returns-in_ok-last_mark-in-Empty : goal.statement-returns-in_ok-last_mark-in-Empty
+statement-returns-in_ok-last_mark-in-Empty t c =
+    let l = (out-Stmt c.args.stmt.now).loc in
+    let is : plain_stmt c.args.stmt.now ≡ tree.Empty l = grind (arith, tree_rules) in
+    of_stmt is (begins_one l c.begin.ensures (last_one c.in_ok-last_mark-in-Empty.ensures))
+
+pub statement-returns-in_ok-last_mark-in-Debugger : goal.statement-returns-in_ok-last_mark-in-Debugger
+statement-returns-in_ok-last_mark-in-Debugger t c =
+    let l = (out-Stmt c.args.stmt.now).loc in
+    let is : plain_stmt c.args.stmt.now ≡ tree.Debugger l = grind (arith, tree_rules) in
+    of_stmt is (begins_one l c.begin.ensures (one c.in_ok-put_debugger-in-Debugger.ensures (last_one c.in_ok-last_mark-in-Debugger.ensures)))
+
+pub statement-returns-in_ok-statement-in-Labelled : goal.statement-returns-in_ok-statement-in-Labelled
+statement-returns-in_ok-statement-in-Labelled t c =
+    let l = (out-Stmt c.args.stmt.now).loc in
+    let is : plain_stmt c.args.stmt.now ≡ tree.Labelled l c.in-Labelled.name (plain_stmt c.get-in-Labelled.result.now) = grind (arith, tree_rules) in
+    of_stmt is (begins_one l c.begin.ensures (one (c.in_ok-word-in-Labelled.ensures ∙ ap (λ w. put c.begin.new.self (word l w)) c.as_str-in-Labelled.ensures) (one c.in_ok-mark-in-Labelled.ensures (last c.in_ok-statement-in-Labelled.ensures))))
+
+pub statement-returns-in_ok-function-in-FunctionDeclaration : goal.statement-returns-in_ok-function-in-FunctionDeclaration
+statement-returns-in_ok-function-in-FunctionDeclaration t c =
+    let l = (out-Stmt c.args.stmt.now).loc in
+    let is : plain_stmt c.args.stmt.now ≡ tree.FunctionDeclaration l c.in-FunctionDeclaration.name (plain_function c.get-in-FunctionDeclaration.result.now) = grind (arith, tree_rules) in
+    of_stmt is (begins_one l c.begin.ensures (one c.in_ok-put_function-in-FunctionDeclaration.ensures (one (c.in_ok-word-in-FunctionDeclaration.ensures ∙ ap (λ w. put c.put_function.new.to (word l w)) c.as_str-in-FunctionDeclaration.ensures) (last c.in_ok-function-in-FunctionDeclaration.ensures))))
+
+pub concise_body-returns-in-ExpressionBody : goal.concise_body-returns-in-ExpressionBody
+concise_body-returns-in-ExpressionBody t c =
+    let e = plain_expr c.in-ExpressionBody.value in
+    let is : plain_concise_body c.args.body.now ≡ tree.ExpressionBody e = grind (arith, tree_rules) in
+    subst (λ b. OnOk c.paired.result (c.paired.new.to ≡ put_all c.args.to.now (concise_tokens (neat_concise b)))) (sym is) (subst (λ x. OnOk c.paired.result (c.paired.new.to ≡ put_all c.args.to.now (expr_tokens x))) (ap (λ b. paired b e (neat_expr e)) c.stands_in_pair_as_body.ensures ∙ sym (body_is e)) c.paired.ensures)
+
+pub concise_body-returns-in-BlockBody : goal.concise_body-returns-in-BlockBody
+concise_body-returns-in-BlockBody t c =
+    let is : plain_concise_body c.args.body.now ≡ tree.BlockBody (plain_function_body c.in-BlockBody.body) = grind (arith, tree_rules) in
+    subst (λ b. OnOk c.function_body.result (c.function_body.new.to ≡ put_all c.args.to.now (concise_tokens (neat_concise b)))) (sym is) c.function_body.ensures
+
+-- ---- steps that failed
 
 pub expression-returns-in_err-placed-in-NamedMember : goal.expression-returns-in_err-placed-in-NamedMember
 expression-returns-in_err-placed-in-NamedMember t c = failed _ _ c.from_residual-in_err-placed-in-NamedMember.ensures.0
