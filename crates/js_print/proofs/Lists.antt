@@ -18,17 +18,17 @@ use Rattle.js_layout.specs.Tokens as tokens
 use Rattle.js_text.specs.declared.punctuator.Punctuator.TheVariants as mark
 use Rattle.js_layout.specs.Neat.{placed, neat_expr, neat_exprs, neat_property, neat_properties, neat_params, neat_declarators, neat_parts}
 use Rattle.js_print.specs.Parts.{neat_param, neat_declarator, part_tokens, test_tokens}
-use Rattle.js_sheet.specs.Sheets.{Sheet, put, put_all}
-use Rattle.js_sheet.proofs.Puts.{put_append}
+use Rattle.js_sheet.specs.Sheets.{Sheet, IfWhole, put, put_all}
+use Rattle.js_sheet.proofs.Puts.{put_append, whole_before}
 
 -- tokens were put, and the rest leads where all of them do
-pub put_step : (to new final : Sheet) (all xs rest : List Written) → all ≡ xs ++ rest → new ≡ put_all to xs → put_all to all ≡ final → put_all new rest ≡ final
-put_step to new final all xs rest cut is end = ap (λ s. put_all s rest) is ∙ sym (put_append to xs rest) ∙ sym (ap (put_all to) cut) ∙ end
+pub put_step : (to new final : Sheet) (all xs rest : List Written) → all ≡ xs ++ rest → IfWhole new (new ≡ put_all to xs) → IfWhole to (put_all to all ≡ final) → IfWhole new (put_all new rest ≡ final)
+put_step to new final all xs rest cut is end =
+    λ whole. ap (λ s. put_all s rest) (is whole) ∙ sym (put_append to xs rest) ∙ sym (ap (put_all to) cut) ∙ end (whole_before to new xs (is whole) whole)
 
 -- the same after a comma
-pub put_more : (to between new final : Sheet) (all xs rest : List Written) (comma : Written) → all ≡ comma ∷ (xs ++ rest) → between ≡ put to comma → new ≡ put_all between xs → put_all to all ≡ final → put_all new rest ≡ final
-put_more to between new final all xs rest comma cut first is end =
-    ap (λ s. put_all s rest) (is ∙ ap (λ s. put_all s xs) first) ∙ sym (put_append (put to comma) xs rest) ∙ sym (ap (put_all to) cut) ∙ end
+pub put_more : (to between new final : Sheet) (all xs rest : List Written) (comma : Written) → all ≡ comma ∷ (xs ++ rest) → IfWhole between (between ≡ put to comma) → IfWhole new (new ≡ put_all between xs) → IfWhole to (put_all to all ≡ final) → IfWhole new (put_all new rest ≡ final)
+put_more to between new final all xs rest comma cut first is = put_step to new final all (comma ∷ xs) rest cut (λ whole. is whole ∙ ap (λ s. put_all s xs) (first (whole_before between new xs (is whole) whole)))
 
 pub next_expr : (xs : List expr.Expr) (i : ℕ) (x : expr.Expr) → i < length xs → x ≡ get_or xs i x → plain_exprs (drop i xs) ≡ P.more_expr (plain_expr x) (plain_exprs (drop (i + 1) xs))
 next_expr xs i x low is =
@@ -78,8 +78,8 @@ pub declarators_cut : (l : Option Loc) (head : Bool) (d : P.Declarator) (ds : P.
 declarators_cut l head (P.MakeDeclarator m x e) ds = refl
 
 -- the first part of a template that is left, and the rest
-pub put_part : (l : Option Loc) (p : P.TemplatePart) (ps : P.TemplateParts) (to new final : Sheet) → new ≡ put_all to (part_tokens T.TemplateMiddle l p) → new ≡ put_all to (part_tokens T.TemplateTail l p) →
-    put_all to (tokens.parts_tokens l (neat_parts (P.more_template_part p ps))) ≡ final → put_all new (tokens.parts_tokens l (neat_parts ps)) ≡ final
+pub put_part : (l : Option Loc) (p : P.TemplatePart) (ps : P.TemplateParts) (to new final : Sheet) → IfWhole new (new ≡ put_all to (part_tokens T.TemplateMiddle l p)) → IfWhole new (new ≡ put_all to (part_tokens T.TemplateTail l p)) →
+    IfWhole to (put_all to (tokens.parts_tokens l (neat_parts (P.more_template_part p ps))) ≡ final) → IfWhole new (put_all new (tokens.parts_tokens l (neat_parts ps)) ≡ final)
 put_part l (P.MakeTemplatePart e s) P.no_template_part to new final middle tail end =
     put_step to new final _ (part_tokens T.TemplateTail l (P.MakeTemplatePart e s)) [] (sym (append-nil (part_tokens T.TemplateTail l (P.MakeTemplatePart e s)))) tail end
 put_part l (P.MakeTemplatePart e s) (P.more_template_part (P.MakeTemplatePart f t) ps) to new final middle tail end =
@@ -87,6 +87,6 @@ put_part l (P.MakeTemplatePart e s) (P.more_template_part (P.MakeTemplatePart f 
     put_step to new final _ (part_tokens T.TemplateMiddle l (P.MakeTemplatePart e s)) rest (sym (append_assoc (tokens.expr_tokens (neat_expr e)) (tokens.token l (T.TemplateMiddle s.spelling) ∷ []) rest)) middle end
 
 -- the first text of a template, whether it is the last or not
-pub put_first : (l : Option Loc) (w : List ℕ) (ps : P.TemplateParts) (to new : Sheet) → new ≡ put to (tokens.token l (T.NoSubstitutionTemplate w)) → new ≡ put to (tokens.token l (T.TemplateHead w)) → new ≡ put to (tokens.token l (tokens.first_part ps w))
+pub put_first : (l : Option Loc) (w : List ℕ) (ps : P.TemplateParts) (to new : Sheet) → IfWhole new (new ≡ put to (tokens.token l (T.NoSubstitutionTemplate w))) → IfWhole new (new ≡ put to (tokens.token l (T.TemplateHead w))) → IfWhole new (new ≡ put to (tokens.token l (tokens.first_part ps w)))
 put_first l w P.no_template_part to new whole head = whole
 put_first l w (P.more_template_part p ps) to new whole head = head

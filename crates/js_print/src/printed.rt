@@ -36,7 +36,7 @@ pub fn print(alloc: Global, file: &File) -> Result<Printed, Memory>
     ensures sources { IfOk result (λ printed. OfSources printed.bytes (plain_file file.now)) }
 {
     let mut to = Sheet::new(alloc);
-    statements(&mut to, file.body.as_slice())?;
+    statements(&mut to, file.body.as_slice());
     let (text, offsets) = to.finish()?;
     let marks = place_marks(alloc, &text, &offsets)?;
     Ok(Printed {

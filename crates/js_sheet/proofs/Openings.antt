@@ -20,9 +20,9 @@ use Rattle.js_reading.specs.Level.{left_level, right_level}
 use Rattle.js_reading.specs.Productions.{logical_right}
 use Rattle.js_reading.specs.Makes.{bare_in, is_and_or}
 use Rattle.js_layout.specs.Tokens.{begun, expr_tokens}
-use Rattle.js_layout.specs.Neat.{level, first_is, is_brace, is_function, is_string, paired, placed, left_operand, as_statement, as_body, neat_expr}
+use Rattle.js_layout.specs.Neat.{level, first_is, is_brace, is_function, is_string, paired, placed, left_operand, as_statement, as_initializer, as_body, neat_expr}
 use Rattle.js_sheet.specs.declared.opening.Opening.TheVariants as first
-use Rattle.js_sheet.specs.Openings.{opening, opening_kind, mixes, is_text, left_in_pair, unless_pair, opens, is_brace_opening, is_barred_opening, body_in_pair, statement_in_pair, bares}
+use Rattle.js_sheet.specs.Openings.{opening, opening_kind, mixes, is_text, left_in_pair, unless_pair, opens, is_brace_opening, is_barred_opening, body_in_pair, statement_in_pair, initializer_in_pair, bares}
 use Rattle.js_sheet.proofs.Puts.{HasToken, has_expr}
 
 -- ---- of tokens
@@ -178,3 +178,6 @@ bares_is (tree.ArrowFunction l n ps (tree.ExpressionBody e)) = ap bare_in (body_
 bares_is (tree.ArrowFunction l n ps (tree.BlockBody body)) = refl
 bares_is (tree.Entered m e) = refl
 bares_is e = refl
+
+pub initializer_is : (head : Bool) (e : Expr) → as_initializer head e (neat_expr e) ≡ paired (initializer_in_pair head e) e (neat_expr e)
+initializer_is head e = ap (λ b. paired (nat_lt (level e) 2 || (head && b)) e (neat_expr e)) (bares_is e)

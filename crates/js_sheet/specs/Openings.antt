@@ -99,3 +99,7 @@ bares (Unary l o e) = not (nat_lt (level e) 16) && bares e
 bares (PrefixUpdate l o e) = not (nat_lt (level e) 16) && bares e
 bares (ArrowFunction l n ps (ExpressionBody e)) = not (body_in_pair e) && bares e
 bares e = false
+
+-- an initializer, in the head of a `for` or elsewhere, that stands in parentheses
+abbrev pub initializer_in_pair : Bool → Expr → Bool
+initializer_in_pair head e = nat_lt (level e) 2 || (head && bares e)

@@ -92,3 +92,11 @@ fn has_bare_in_as_body(expr: &Expr) -> bool
 {
     !stands_in_pair_as_body(expr) && has_bare_in(expr)
 }
+
+/// Whether it stands in parentheses as an initializer, in the head of a `for` (ECMA-262, 14.7.4) or
+/// elsewhere.
+pub fn stands_in_pair_as_initializer(head: bool, expr: &Expr) -> bool
+    ensures { result ≡ spec.initializer_in_pair head (plain_expr expr.now) }
+{
+    is_looser(expr, 2) || (head && has_bare_in(expr))
+}

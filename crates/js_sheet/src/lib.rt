@@ -10,7 +10,7 @@ mod opening;
 mod sheet;
 mod words;
 
-pub use bare::has_bare_in;
+pub use bare::{has_bare_in, stands_in_pair_as_initializer};
 pub use first::{stands_in_pair, stands_in_pair_as_body, stands_in_pair_as_statement};
 pub use left::{Left, Sort};
 pub use level::{is_looser, left_level, logical_right, right_level};

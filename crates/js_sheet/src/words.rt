@@ -1,4 +1,4 @@
-ghost use Rattle.std.specs.Prelude.{◌≡◌, ◌∷◌, [], codes, OnOk};
+ghost use Rattle.std.specs.Prelude.{◌≡◌, ◌∷◌, [], codes, false};
 ghost use Rattle.js_tree.specs.Tree.{plain_expr, plain_pattern};
 ghost use Rattle.js_text.specs.declared.punctuator.Punctuator.TheVariants as P;
 ghost use Rattle.js_reading.specs.Makes.{loc_of};
@@ -6,10 +6,9 @@ ghost use Rattle.js_reading.specs.Productions as grammar;
 ghost use Rattle.js_layout.specs.Neat.{neat_expr};
 ghost use Rattle.js_layout.specs.Tokens as tokens;
 ghost use Rattle.js_sheet.specs.Pairs.{own_pair};
-ghost use Rattle.js_sheet.specs.Sheets.{put, put_all};
+ghost use Rattle.js_sheet.specs.Sheets.{IfWhole, put, put_all};
 
 use crate::sheet::Sheet;
-use items::Memory;
 use js_text::Punctuator;
 use js_tree::{
     AssignmentOperator, BinaryOperator, Expr, ExprNode, Identifier, Loc, LogicalOperator, Pattern,
@@ -80,48 +79,48 @@ pub fn pair_place(expr: &Expr) -> Option<Loc>
 }
 
 /// Prints the head of a `for` as far as its parenthesis.
-pub fn put_for_head(to: &mut Sheet, loc: Option<Loc>) -> Result<(), Memory>
-    ensures { OnOk result (to.new ≡ put (put to.old (tokens.word loc (codes "for"))) (tokens.mark loc P.OpenParenthesis)) }
+pub fn put_for_head(to: &mut Sheet, loc: Option<Loc>)
+    ensures { IfWhole to.new (to.new ≡ put (put to.old (tokens.word loc (codes "for"))) (tokens.mark loc P.OpenParenthesis)) }
 {
-    to.word(loc, "for")?;
+    to.word(loc, "for");
     to.mark(loc, Punctuator::OpenParenthesis)
 }
 
 /// Prints `function`.
-pub fn put_function(to: &mut Sheet, loc: Option<Loc>) -> Result<(), Memory>
-    ensures { OnOk result (to.new ≡ put to.old (tokens.word loc (codes "function"))) }
+pub fn put_function(to: &mut Sheet, loc: Option<Loc>)
+    ensures { IfWhole to.new (to.new ≡ put to.old (tokens.word loc (codes "function"))) }
 {
-    to.word(loc, "function")
+    to.word(loc, "function");
 }
 
 /// Prints `continue`.
-pub fn put_continue(to: &mut Sheet, loc: Option<Loc>) -> Result<(), Memory>
-    ensures { OnOk result (to.new ≡ put to.old (tokens.word loc (codes "continue"))) }
+pub fn put_continue(to: &mut Sheet, loc: Option<Loc>)
+    ensures { IfWhole to.new (to.new ≡ put to.old (tokens.word loc (codes "continue"))) }
 {
-    to.word(loc, "continue")
+    to.word(loc, "continue");
 }
 
 /// Prints `debugger`.
-pub fn put_debugger(to: &mut Sheet, loc: Option<Loc>) -> Result<(), Memory>
-    ensures { OnOk result (to.new ≡ put to.old (tokens.word loc (codes "debugger"))) }
+pub fn put_debugger(to: &mut Sheet, loc: Option<Loc>)
+    ensures { IfWhole to.new (to.new ≡ put to.old (tokens.word loc (codes "debugger"))) }
 {
-    to.word(loc, "debugger")
+    to.word(loc, "debugger");
 }
 
 /// Prints a name, where there is one.
-pub fn label(to: &mut Sheet, loc: Option<Loc>, name: &Option<Identifier>) -> Result<(), Memory>
-    ensures { OnOk result (to.new ≡ put_all to.old (tokens.label_tokens loc name.now)) }
+pub fn label(to: &mut Sheet, loc: Option<Loc>, name: &Option<Identifier>)
+    ensures { IfWhole to.new (to.new ≡ put_all to.old (tokens.label_tokens loc name.now)) }
 {
     match name {
-        None => Ok(()),
+        None => {}
         Some(name) => to.word(loc, name.name.as_str()),
     }
 }
 
 /// Prints what a declaration binds.
 #[tactic(auto, using(js_tree::proofs::Equations::tree_rules))]
-pub fn pattern(to: &mut Sheet, loc: Option<Loc>, pattern: &Pattern) -> Result<(), Memory>
-    ensures { OnOk result (to.new ≡ put_all to.old (tokens.pattern_tokens loc (plain_pattern pattern.now))) }
+pub fn pattern(to: &mut Sheet, loc: Option<Loc>, pattern: &Pattern)
+    ensures { IfWhole to.new (to.new ≡ put_all to.old (tokens.pattern_tokens loc (plain_pattern pattern.now))) }
 {
     match &pattern.node {
         PatternNode::BindingIdentifier(name) => to.word(loc, name.as_str()),
@@ -129,12 +128,8 @@ pub fn pattern(to: &mut Sheet, loc: Option<Loc>, pattern: &Pattern) -> Result<()
 }
 
 /// Prints a binary operator.
-pub fn put_binary_sign(
-    to: &mut Sheet,
-    loc: Option<Loc>,
-    operator: BinaryOperator,
-) -> Result<(), Memory>
-    ensures { OnOk result (to.new ≡ put to.old (tokens.token loc (grammar.sign_of operator))) }
+pub fn put_binary_sign(to: &mut Sheet, loc: Option<Loc>, operator: BinaryOperator)
+    ensures { IfWhole to.new (to.new ≡ put to.old (tokens.token loc (grammar.sign_of operator))) }
 {
     match operator {
         BinaryOperator::Exponentiate => to.mark(loc, Punctuator::Exponent),
@@ -163,12 +158,8 @@ pub fn put_binary_sign(
 }
 
 /// Prints a logical operator.
-pub fn put_logical_sign(
-    to: &mut Sheet,
-    loc: Option<Loc>,
-    operator: LogicalOperator,
-) -> Result<(), Memory>
-    ensures { OnOk result (to.new ≡ put to.old (tokens.mark loc (grammar.logical_sign operator))) }
+pub fn put_logical_sign(to: &mut Sheet, loc: Option<Loc>, operator: LogicalOperator)
+    ensures { IfWhole to.new (to.new ≡ put to.old (tokens.mark loc (grammar.logical_sign operator))) }
 {
     match operator {
         LogicalOperator::And => to.mark(loc, Punctuator::LogicalAnd),
@@ -178,12 +169,8 @@ pub fn put_logical_sign(
 }
 
 /// Prints an assignment operator.
-pub fn put_assignment_sign(
-    to: &mut Sheet,
-    loc: Option<Loc>,
-    operator: AssignmentOperator,
-) -> Result<(), Memory>
-    ensures { OnOk result (to.new ≡ put to.old (tokens.mark loc (grammar.assignment_sign operator))) }
+pub fn put_assignment_sign(to: &mut Sheet, loc: Option<Loc>, operator: AssignmentOperator)
+    ensures { IfWhole to.new (to.new ≡ put to.old (tokens.mark loc (grammar.assignment_sign operator))) }
 {
     match operator {
         AssignmentOperator::Assign => to.mark(loc, Punctuator::Assign),
@@ -206,12 +193,8 @@ pub fn put_assignment_sign(
 }
 
 /// Prints a unary operator.
-pub fn put_unary_sign(
-    to: &mut Sheet,
-    loc: Option<Loc>,
-    operator: UnaryOperator,
-) -> Result<(), Memory>
-    ensures { OnOk result (to.new ≡ put to.old (tokens.token loc (grammar.prefix_of operator))) }
+pub fn put_unary_sign(to: &mut Sheet, loc: Option<Loc>, operator: UnaryOperator)
+    ensures { IfWhole to.new (to.new ≡ put to.old (tokens.token loc (grammar.prefix_of operator))) }
 {
     match operator {
         UnaryOperator::Delete => to.word(loc, "delete"),
@@ -225,12 +208,8 @@ pub fn put_unary_sign(
 }
 
 /// Prints an update operator.
-pub fn put_update_sign(
-    to: &mut Sheet,
-    loc: Option<Loc>,
-    operator: UpdateOperator,
-) -> Result<(), Memory>
-    ensures { OnOk result (to.new ≡ put to.old (tokens.mark loc (grammar.update_of operator))) }
+pub fn put_update_sign(to: &mut Sheet, loc: Option<Loc>, operator: UpdateOperator)
+    ensures { IfWhole to.new (to.new ≡ put to.old (tokens.mark loc (grammar.update_of operator))) }
 {
     match operator {
         UpdateOperator::Increment => to.mark(loc, Punctuator::Increment),
@@ -239,8 +218,8 @@ pub fn put_update_sign(
 }
 
 /// Prints the word of a declaration.
-pub fn put_variable_word(to: &mut Sheet, loc: Option<Loc>, kind: VariableKind) -> Result<(), Memory>
-    ensures { OnOk result (to.new ≡ put to.old (tokens.word loc (grammar.variable_word kind))) }
+pub fn put_variable_word(to: &mut Sheet, loc: Option<Loc>, kind: VariableKind)
+    ensures { IfWhole to.new (to.new ≡ put to.old (tokens.word loc (grammar.variable_word kind))) }
 {
     match kind {
         VariableKind::Var => to.word(loc, "var"),
