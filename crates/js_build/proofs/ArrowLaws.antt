@@ -1,5 +1,5 @@
 -- Parameters and bodies of arrow functions.
-use Rattle.std.proofs.Common.{◌≡◌, ℕ, max, List, [], ◌∷◌, Option, Some, None, refl, ap, arith}
+use Rattle.std.proofs.Common.{◌≡◌, ℕ, max, Bool, List, [], ◌∷◌, Option, Some, None, refl, ap, sym, ◌∙◌, arith}
 use Rattle.js_tree.specs.declared.operators.AssignmentOperator.TheVariants as assign
 use Rattle.js_tree.specs.declared.place.Loc.{Loc}
 use Rattle.js_tree.specs.Plain.{Expr, Exprs, no_expr, more_expr, Param, Params, no_param, more_param, push_params}
@@ -41,6 +41,15 @@ params_more e es = refl
 pub none_more : (o : Option Params) → one_more_param None o ≡ None
 none_more None = refl
 none_more (Some ps) = refl
+
+pub param_turn : (ps : Params) (p : Param) (e : Expr) (es : Exprs) (whole : Option Params) → Some p ≡ param_of e → with_front ps (params_of (more_expr e es)) ≡ whole → with_front (push_params ps p) (params_of es) ≡ whole
+param_turn ps p e es whole read so = front_push ps p (params_of es) ∙ ap (λ o. with_front ps (one_more_param o (params_of es))) read ∙ so
+
+pub param_none : (ps : Params) (e : Expr) (es : Exprs) (whole : Option Params) → None ≡ param_of e → with_front ps (params_of (more_expr e es)) ≡ whole → None ≡ whole
+param_none ps e es whole read so = sym (front_none ps) ∙ ap (with_front ps) (sym (none_more (params_of es))) ∙ ap (λ o. with_front ps (one_more_param o (params_of es))) read ∙ so
+
+pub params_end : (ps : Params) (es : Exprs) (whole : Option Params) → es ≡ no_expr → with_front ps (params_of es) ≡ whole → Some ps ≡ whole
+params_end ps es whole over so = sym (front_all ps) ∙ ap (λ x. with_front ps (params_of x)) (sym over) ∙ so
 
 -- they are as high as what was read
 abbrev SameParam : ℕ → Option Param → Type 0
@@ -104,7 +113,16 @@ concise_place l (TheStmts ss ∷ APlace m ∷ p ∷ ps) = refl
 concise_place l (TheStmts ss ∷ p ∷ ps) = refl
 concise_place l (p ∷ ps) = refl
 
+pub block_missing : (l : Loc) (ps : List Piece) → None ≡ braces_of ps → concise (APlace l ∷ ps) ≡ None
+block_missing l ps read = concise_place l ps ∙ ap (block_alone l) (sym read)
+
+pub block_over : (l : Loc) (ps rest : List Piece) (ss : tree.Stmts) (m : Loc) (b : Bool) → Some ((ss, m), rest) ≡ braces_of ps → b ≡ none_left rest → concise (APlace l ∷ ps) ≡ if_over b (tree.BlockBody (tree.MakeFunctionBody (Some (through l m)) (with_directives ss)))
+block_over l ps rest ss m b read over = concise_place l ps ∙ ap (block_alone l) (sym read) ∙ ap (λ x. if_over x (tree.BlockBody (tree.MakeFunctionBody (Some (through l m)) (with_directives ss)))) (sym over)
+
 -- a body that is an expression
 pub concise_expression : (i : ℕ) (e : Expr) (ps : List Piece) → concise (AnExpr i e ∷ ps) ≡ if_over (none_left ps) (tree.ExpressionBody e)
 concise_expression i e [] = refl
 concise_expression i e (p ∷ ps) = refl
+
+pub concise_over : (i : ℕ) (e : Expr) (ps : List Piece) (b : Bool) → b ≡ none_left ps → concise (AnExpr i e ∷ ps) ≡ if_over b (tree.ExpressionBody e)
+concise_over i e ps b over = concise_expression i e ps ∙ ap (λ x. if_over x (tree.ExpressionBody e)) (sym over)

@@ -19,3 +19,6 @@ pub mod ArrowForms
 pub mod ExprPlaces
 pub mod ParenthesesForms
 pub mod HeadLaws
+pub mod NodeMeasures
+pub mod MadeAs
+pub mod Turns

@@ -1,5 +1,5 @@
 -- Properties, read one by one from the front.
-use Rattle.std.proofs.Common.{◌≡◌, ◌≤◌, ◌<◌, ℕ, zero, suc, max, Bool, true, false, List, [], ◌∷◌, Option, Some, None, if◌then◌else◌, refl, ap, sym, subst, arith}
+use Rattle.std.proofs.Common.{◌≡◌, ◌≤◌, ◌<◌, ℕ, zero, suc, max, Bool, true, false, List, [], ◌∷◌, Option, Some, None, if◌then◌else◌, refl, ap, sym, subst, ◌∙◌, arith}
 use Rattle.js_tree.specs.declared.place.Loc.{Loc}
 use Rattle.js_tree.specs.Plain.{Expr, Property, PropertyKey, NameKey, StringKey, NumberKey, ComputedKey, Properties, no_property, more_property, push_properties}
 use Rattle.js_tree.specs.Plain as tree
@@ -196,5 +196,14 @@ front_all (more_property q ps) = ap (one_more_property q) (front_all ps)
 pub max_push : (xs : Properties) (a : Property) → height_properties (push_properties xs a) ≡ max (height_property a) (height_properties xs)
 max_push no_property a = omega arith
 max_push (more_property x xs) a = let e = max_push xs a in omega arith
+
+pub property_turn : (xs : Properties) (x : Property) (p : Piece) (ps rest : List Piece) (whole : Option Properties) → Some (x, rest) ≡ property_of (p ∷ ps) → front xs (all_properties (p ∷ ps)) ≡ whole → front (push_properties xs x) (all_properties rest) ≡ whole
+property_turn xs x p ps rest whole read so = front_push xs x (all_properties rest) ∙ ap (λ o. front xs (more_of o)) read ∙ ap (front xs) (sym (all_more p ps)) ∙ so
+
+pub property_missing : (xs : Properties) (p : Piece) (ps : List Piece) (whole : Option Properties) → None ≡ property_of (p ∷ ps) → front xs (all_properties (p ∷ ps)) ≡ whole → None ≡ whole
+property_missing xs p ps whole read so = sym (front_none xs) ∙ ap (λ o. front xs (more_of o)) read ∙ ap (front xs) (sym (all_more p ps)) ∙ so
+
+pub properties_end : (xs : Properties) (ps : List Piece) (whole : Option Properties) → ps ≡ [] → front xs (all_properties ps) ≡ whole → Some xs ≡ whole
+properties_end xs ps whole over so = sym (front_all xs) ∙ ap (front xs) (sym all_end) ∙ ap (λ left. front xs (all_properties left)) (sym over) ∙ so
 
 pub ruleset object_rules = (front_push, front_none, front_all, max_push, all_more, all_end)

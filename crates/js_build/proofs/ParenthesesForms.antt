@@ -6,7 +6,8 @@ use Rattle.js_tree.specs.Plain as tree
 use Rattle.js_reading.specs.Slots.{Piece, AnExpr, APlace, Missing, TheExprs}
 use Rattle.js_reading.specs.declared.form.Form.TheVariants as form
 use Rattle.js_reading.specs.Makes.{build, comma_of, loc_of, params_of}
-use Rattle.js_build.specs.Parentheses.{after_list, both, first_list, joined, pair}
+use Rattle.js_build.specs.Parentheses.{after_list, both, first_list, joined, pair, parenthesized}
+use Rattle.js_build.specs.Shapes.{if_over, none_left}
 use Rattle.js_build.proofs.ArrowLaws.{arrow_without}
 
 -- ---- commas
@@ -60,3 +61,14 @@ pub parentheses_form : (l : Loc) (ps : List Piece) → build form.Parentheses l 
 parentheses_form l [] = refl
 parentheses_form l (TheExprs t xs ∷ ps) = listed l t xs ps
 parentheses_form l (p ∷ ps) = refl
+
+-- ---- parentheses that are no arrow's
+
+pub trailing_none : (l : Loc) (t : Bool) (xs : Exprs) (ps : List Piece) → t ≡ true → parenthesized l t xs ps ≡ None
+trailing_none l t xs ps p = rw p
+
+pub empty_none : (l : Loc) (t : Bool) (xs : Exprs) (ps : List Piece) → t ≡ false → xs ≡ no_expr → parenthesized l t xs ps ≡ None
+empty_none l t xs ps p q = rw (p, q)
+
+pub enclosed : (l : Loc) (t : Bool) (xs : Exprs) (e : Expr) (es : Exprs) (ps : List Piece) (b : Bool) → t ≡ false → xs ≡ more_expr e es → b ≡ none_left ps → parenthesized l t xs ps ≡ if_over b (AnExpr 21 (tree.Parenthesized (Some l) (comma_of loc_of e es)))
+enclosed l t xs e es ps b p q r = rw (p, q, r)

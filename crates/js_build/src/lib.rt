@@ -32,6 +32,7 @@ mod templates;
 mod tests;
 mod tries;
 
+pub use objects::{is_keyword, is_proto, is_proto_string};
 pub use operand::{Body, Key, List, Operand, Statements};
 pub use piece::Piece;
 pub use productions::build;

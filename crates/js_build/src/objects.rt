@@ -26,16 +26,16 @@ use std::alloc::Global;
 /// `__proto__` in 16-bit units.
 const PROTO: [u16; 9] = [95, 95, 112, 114, 111, 116, 111, 95, 95];
 
-/// Whether a word can be no name (12.7.2).
+/// Whether a word can be no name (ECMA-262, 12.7.2).
 #[tactic(auto, unfolding(js_reading::specs::Kinds::is_keyword))]
-fn is_keyword(word: &str) -> bool
+pub fn is_keyword(word: &str) -> bool
     ensures { result ≡ kinds.is_keyword word.now }
 {
     reserved_word(word).is_some()
 }
 
 /// Whether a string's units are `__proto__`.
-fn is_proto_string(units: &[u16]) -> bool
+pub fn is_proto_string(units: &[u16]) -> bool
     ensures { result ≡ bytes_eq units.now (codes "__proto__") }
 {
     units == PROTO.as_slice()
@@ -43,7 +43,7 @@ fn is_proto_string(units: &[u16]) -> bool
 
 /// Whether a key is `__proto__`, which with `:` is no form of the language.
 #[tactic(auto, using(crate::proofs::ObjectLaws::key_rules))]
-fn is_proto(key: &PropertyKey) -> bool
+pub fn is_proto(key: &PropertyKey) -> bool
     ensures { result ≡ makes.is_proto (plain_property_key key.now) }
 {
     match key {

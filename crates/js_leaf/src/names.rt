@@ -5,18 +5,10 @@ ghost use Rattle.js_reading.specs.Kinds as kinds;
 ghost use Rattle.js_reading.specs.Productions as productions;
 
 use items::{Memory, Text};
+use js_build::is_keyword;
 use js_lexer::{TokenKind, name_of};
-use js_text::reserved_word;
 use js_tree::Name;
 use std::alloc::Global;
-
-/// Whether a word can be no name (ECMA-262, 12.7.2).
-#[tactic(auto, unfolding(js_reading::specs::Kinds::is_keyword))]
-pub(crate) fn is_keyword(word: &str) -> bool
-    ensures { result ≡ kinds.is_keyword word.now }
-{
-    reserved_word(word).is_some()
-}
 
 /// The name that a token binds or refers to, where it is one (12.7.2, 13.1).
 pub fn bound_name(alloc: Global, kind: TokenKind<'_>) -> Result<Option<Name>, Memory>

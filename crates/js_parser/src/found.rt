@@ -2,7 +2,6 @@ ghost use Rattle.std.specs.Prelude.{◌≡◌, not, ◌&&◌, ◌||◌, codes, I
 ghost use Rattle.js_tree.specs.declared.place.Loc.{Loc};
 ghost use Rattle.js_text.specs.declared.punctuator.Punctuator.TheVariants as P;
 ghost use Rattle.js_lexer.specs.Token.{plain_token};
-ghost use Rattle.js_reading.specs.Kinds as kinds;
 ghost use Rattle.js_reading.specs.declared.class.Class.TheVariants as slot;
 ghost use Rattle.js_reading.specs.Productions as productions;
 ghost use Rattle.js_reading.specs.Turns.{Config};
@@ -12,11 +11,11 @@ ghost use Rattle.js_reading.specs.Found as spec;
 ghost use Rattle.js_stack.specs.Sight.{Sees};
 
 use items::Memory;
+use js_build::{is_keyword, is_proto_string};
 use js_grammar::is_mark;
 use js_lexer::{Punctuator, Token, TokenKind, name_of, units_of};
 use js_reading::Unsupported;
 use js_stack::Sight;
-use js_text::reserved_word;
 use js_tree::Loc;
 use std::alloc::Global;
 
@@ -137,14 +136,6 @@ pub(crate) fn one(sight: Sight, token: Token<'_>) -> Find
         return None;
     };
     Some((form, token.loc))
-}
-
-/// Whether a word is reserved, and so no name (ECMA-262, 12.7.2).
-#[tactic(auto, unfolding(js_reading::specs::Kinds::is_keyword))]
-fn is_keyword(word: &str) -> bool
-    ensures { result ≡ kinds.is_keyword word.now }
-{
-    reserved_word(word).is_some()
 }
 
 /// Whether a token is a name that may be bound.
@@ -287,9 +278,6 @@ pub(crate) fn three(
     Ok(when(found, Unsupported::Async, token))
 }
 
-/// `__proto__` in 16-bit units.
-const PROTO: [u16; 9] = [0x5F, 0x5F, 0x70, 0x72, 0x6F, 0x74, 0x6F, 0x5F, 0x5F];
-
 /// Whether a token is the key `__proto__`.
 fn is_proto_word(alloc: Global, token: Token<'_>) -> Result<bool, Memory>
     ensures { IfOk result (λ is. is ≡ productions.is_proto_word (plain_token token.entry).kind) }
@@ -302,7 +290,7 @@ fn is_proto_word(alloc: Global, token: Token<'_>) -> Result<bool, Memory>
         }
         TokenKind::StringLiteral(spelling) => {
             let units = units_of(alloc, spelling)?;
-            Ok(units.as_slice() == PROTO.as_slice())
+            Ok(is_proto_string(units.as_slice()))
         }
         _ => Ok(false),
     }

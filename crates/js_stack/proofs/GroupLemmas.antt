@@ -1,5 +1,5 @@
 -- What a group that is whole begins is told by its parts, and by the frame round it.
-use Rattle.std.proofs.Common.{◌≡◌, ℕ, Bool, true, false, List, [], ◌∷◌, ◌++◌, length, Option, Some, None, is_some, if◌then◌else◌, refl, sym, ap, subst, ◌∙◌, arith}
+use Rattle.std.proofs.Common.{◌≡◌, ℕ, Bool, true, false, List, [], ◌∷◌, ◌++◌, length, Option, Some, None, is_some, if◌then◌else◌, refl, sym, ap, ◌∙◌, arith}
 use Rattle.std.specs.Prelude.{◌==◌, ◌&&◌, ◌||◌, not, nat_le}
 use Rattle.std.specs.Option.{option_map}
 use Rattle.std.proofs.lemmas.Bool.{ne_eqb}
@@ -17,9 +17,9 @@ use Rattle.js_reading.specs.declared.form.Form.TheVariants as form
 use Rattle.js_reading.specs.Slots.{Wanted, Level, WithoutIn, Callee, Piece, AnExpr, TheStmts, TheExprs, APlace, Missing, Expr_}
 use Rattle.js_reading.specs.Slots as plain
 use Rattle.js_reading.specs.Productions.{primary, member, is_mark, join, strength, wants}
-use Rattle.js_reading.specs.Makes.{arrow_of, bare_in, build, comma_of, concise, last_level, length_of, loc_of, object_of, params_of, properties_of}
+use Rattle.js_reading.specs.Makes.{arrow_of, bare_in, build, comma_of, concise, last_level, loc_of, object_of, params_of}
 use Rattle.js_reading.specs.Sentences.{bans, continues, fits, grip, stands_for}
-use Rattle.js_reading.specs.Turns.{Config, Due, Frame, InForm, wanted}
+use Rattle.js_reading.specs.Turns.{Due, Frame, InForm, wanted}
 use Rattle.js_reading.specs.declared.unsupported.Unsupported.{Unsupported}
 use Rattle.js_reading.specs.declared.unsupported.Unsupported.TheVariants.{ParenthesizedTarget, BindingPattern}
 use Rattle.js_reading.specs.Unsupported.{assigns, is_each, is_head, is_update}
@@ -30,11 +30,10 @@ use Rattle.js_grammar.specs.View.{plain_slot, plain_slots}
 use Rattle.js_build.specs.Objects.{all_properties}
 use Rattle.js_stack.specs.declared.production.Frame as code
 use Rattle.js_stack.specs.declared.objects.Awaits.TheVariants as awaits
-use Rattle.js_stack.specs.Groups.{after_target, after_target_next, arrow_left, arrow_next, bracketed, found_at, goes_on, head_by, holds_target, is_items, no_exprs, site_in, site_of, takes, takes_pattern, takes_target, target_within, target, array, object, update_by}
+use Rattle.js_stack.specs.Groups.{after_target, after_target_next, arrow_left, arrow_next, found_at, goes_on, head_by, holds_target, is_items, no_exprs, site_in, site_of, takes, takes_pattern, takes_target, target_within, target, array, object, update_by}
 use Rattle.js_stack.specs.Left.{first_slot}
 use Rattle.js_stack.specs.Objects.{ends}
-use Rattle.js_stack.specs.Own.{no_part}
-use Rattle.js_stack.specs.Stack.{first_frame, no_slot}
+use Rattle.js_stack.specs.Stack.{first_frame}
 use Rattle.js_stack.specs.View.{plain_frame, frames}
 use Rattle.js_stack.proofs.ObjectLemmas.{object_is}
 

@@ -1,5 +1,5 @@
 -- The parts of an object that come to the end of a property are those that an object is made of.
-use Rattle.std.proofs.Common.{◌≡◌, ◌≤◌, ℕ, zero, suc, Bool, true, false, List, [], ◌∷◌, Option, Some, None, is_some, if◌then◌else◌, refl, sym, ap, subst, ◌∙◌, arith}
+use Rattle.std.proofs.Common.{◌≡◌, ◌≤◌, ℕ, zero, suc, Bool, true, false, List, [], ◌∷◌, Option, Some, None, is_some, if◌then◌else◌, refl, ap, ◌∙◌, arith}
 use Rattle.std.specs.Prelude.{not}
 use Rattle.js_tree.specs.declared.place.Loc.{Loc}
 use Rattle.js_tree.specs.Plain.{Property, PropertyKey, NameKey, StringKey, NumberKey, ComputedKey, Properties}
@@ -8,11 +8,11 @@ use Rattle.js_reading.specs.Spans.{through}
 use Rattle.js_reading.specs.Kinds.{is_keyword}
 use Rattle.js_reading.specs.Slots.{Piece, AnExpr, TheStmts, AWord, AKey, APlace, Missing, IsComputed, IsMethod}
 use Rattle.js_reading.specs.Makes.{after_key, is_proto, length_of, method_of, method_param, method_with, one_more_property, property_of}
-use Rattle.js_build.specs.Objects.{all_properties, definition_of, key_value_of, shorthand_of, with_rest}
+use Rattle.js_build.specs.Objects.{all_properties, definition_of, shorthand_of, with_rest}
 use Rattle.js_build.proofs.ObjectLaws.{after_defined, after_definition, all_end, all_more, more_of, property_shorter}
 use Rattle.js_stack.specs.declared.objects.Awaits.{Awaits}
 use Rattle.js_stack.specs.declared.objects.Awaits.TheVariants as a
-use Rattle.js_stack.specs.Objects.{is_alone, is_valued, after, is_key, ends}
+use Rattle.js_stack.specs.Objects.{is_alone, is_valued, ends}
 
 -- where nothing is awaited nothing ends
 dead : (ps : List Piece) → false ≡ ends a.Nothing ps

@@ -1,9 +1,9 @@
 -- One more frame on the stack, and what the frames come to.
-use Rattle.std.proofs.Common.{◌≡◌, ℕ, ◌+◌, max, Bool, true, false, List, [], ◌∷◌, ◌++◌, length, Option, Some, None, refl, sym, ap, subst, ◌∙◌, arith}
+use Rattle.std.proofs.Common.{◌≡◌, ℕ, ◌+◌, max, Bool, true, false, List, [], ◌∷◌, ◌++◌, length, Some, None, refl, sym, ap, subst, ◌∙◌, arith}
 use Rattle.std.specs.Prelude.{◌==◌}
 use Rattle.std.proofs.lemmas.Bool.{ne_eqb}
 use Rattle.std.proofs.lemmas.List.{reverse-append}
-use Rattle.js_reading.specs.Slots.{Wanted, Slot, Expr_, Level, WithoutIn, Callee, By}
+use Rattle.js_reading.specs.Slots.{Wanted, Slot, Expr_, Level, WithoutIn, By}
 use Rattle.js_reading.specs.declared.choice.Choice.TheVariants as choice
 use Rattle.js_reading.specs.Turns.{Frame, InForm, InExpression, InStmts, InFile, InItems, inner, place, template_due}
 use Rattle.js_reading.specs.Open.{lift, up}

@@ -1,10 +1,9 @@
 -- What a place says of the next token, by the next of the slots that are left.
-use Rattle.std.proofs.Common.{◌≡◌, ℕ, Bool, true, false, List, [], ◌∷◌, length, Option, Some, None, if◌then◌else◌, refl, sym, ap, ◌∙◌, arith, codes}
-use Rattle.std.specs.Prelude.{◌==◌, ◌&&◌, not}
+use Rattle.std.proofs.Common.{◌≡◌, Bool, true, false, List, [], ◌∷◌, length, Some, None, refl, sym, ap, ◌∙◌, arith, codes}
+use Rattle.std.specs.Prelude.{◌==◌, ◌&&◌}
 use Rattle.std.specs.Option.{option_map}
 use Rattle.std.proofs.lemmas.Bool.{ne_eqb}
 use Rattle.js_tree.specs.declared.place.Loc.{Loc}
-use Rattle.js_tree.specs.Plain.{Exprs}
 use Rattle.js_tree.specs.Plain as tree
 use Rattle.js_text.specs.Token.{Token}
 use Rattle.js_reading.specs.declared.class.Class.TheVariants as class
@@ -13,7 +12,7 @@ use Rattle.js_reading.specs.declared.form.Form.{Form}
 use Rattle.js_reading.specs.declared.form.Form.TheVariants as form
 use Rattle.js_reading.specs.Slots as plain
 use Rattle.js_reading.specs.Productions.{is_word}
-use Rattle.js_reading.specs.Turns.{Config, Due, Have, Item, Start, Finished, Frame, InItems}
+use Rattle.js_reading.specs.Turns.{Config, Due, Have, Item, Frame, InItems}
 use Rattle.js_reading.specs.declared.unsupported.Unsupported.TheVariants.{ThisOutside}
 use Rattle.js_reading.specs.Unsupported.{at_property, at_any_name, at_bound_name, at_item, operand_over}
 use Rattle.js_reading.specs.Found.{Turns, at_object, called, arrow_after, named_callee, when}

@@ -1,16 +1,16 @@
 -- A production that a token tells begins with the token, or goes on with the expression before it.
-use Rattle.std.proofs.Common.{◌≡◌, ℕ, Bool, true, false, List, [], ◌∷◌, Option, Some, None, if◌then◌else◌, refl, sym, ap, subst, ◌∙◌}
+use Rattle.std.proofs.Common.{◌≡◌, ℕ, Bool, true, false, List, [], ◌∷◌, Option, Some, None, if◌then◌else◌, refl, sym, subst}
 use Rattle.std.specs.Prelude.{◌&&◌, ◌||◌}
 use Rattle.std.proofs.lemmas.Bool.{true≢false}
 use Rattle.js_tree.specs.declared.place.Loc.{Loc}
 use Rattle.js_tree.specs.Plain.{Expr}
 use Rattle.js_text.specs.Token.{Token}
-use Rattle.js_reading.specs.Slots.{Slot, Sign, Text, Expr_, Piece, AnExpr}
+use Rattle.js_reading.specs.Slots.{Slot, Sign, Expr_, AnExpr}
 use Rattle.js_reading.specs.declared.form.Form.{Form}
 use Rattle.js_reading.specs.declared.class.Class.TheVariants.{FirstText}
 use Rattle.js_reading.specs.declared.form.Form.TheVariants as form
 use Rattle.js_reading.specs.Productions.{slots, prefix, statement, join, find, prefixes, statements, joins, as_it_is, after_first, begins_with, on_line, same_line, piece_of}
-use Rattle.js_reading.specs.Turns.{Frame, InForm, listing, Config, Due, begin_form, take_second, texted, enter}
+use Rattle.js_reading.specs.Turns.{Frame, InForm, listing, Due, begin_form, take_second, texted, enter}
 use Rattle.js_grammar.specs.View.{after_told}
 use Rattle.js_stack.specs.Told.{is_template, sign_first, sign_second, is_headed, is_joined, headed_if, joined_if, lists}
 

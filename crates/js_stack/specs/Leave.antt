@@ -1,5 +1,5 @@
 -- What becomes of a part in the frame that it stands in, and of a part that has been made.
-use Rattle.std.specs.Prelude.{◌≡◌, List, Option}
+use Rattle.std.specs.Prelude.{List, Option}
 use Rattle.js_tree.specs.declared.place.Loc.{Loc}
 use Rattle.js_tree.specs.Tree.{plain_expr, plain_stmt}
 use Rattle.js_text.specs.Token.{Token}

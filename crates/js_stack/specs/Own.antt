@@ -1,5 +1,5 @@
 -- What is asked of the parts of a production: whether there are any, and whether what comes after one is a function's own.
-use Rattle.std.specs.Prelude.{Bool, true, false, List, [], ◌∷◌}
+use Rattle.std.specs.Prelude.{Bool, true, false, List, []}
 use Rattle.js_reading.specs.Slots.{Piece, TheStmts, IsMethod}
 
 abbrev pub no_part : List Piece → Bool

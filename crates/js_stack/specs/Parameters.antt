@@ -1,5 +1,5 @@
 -- A pattern among the parameters of an arrow in parentheses, by the parts of the production.
-use Rattle.std.specs.Prelude.{◌&&◌, List, [], ◌∷◌, Option, Some, None, if◌then◌else◌}
+use Rattle.std.specs.Prelude.{◌&&◌, List, [], ◌∷◌, Option, None, if◌then◌else◌}
 use Rattle.js_tree.specs.declared.place.Loc.{Loc}
 use Rattle.js_text.specs.Token.{Token}
 use Rattle.js_reading.specs.declared.form.Form.{Form}

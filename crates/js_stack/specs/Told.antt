@@ -1,5 +1,5 @@
 -- What is known of a production that a token tells.
-use Rattle.std.specs.Prelude.{Bool, true, false, ◌||◌, List, [], ◌∷◌, Option, Some, None}
+use Rattle.std.specs.Prelude.{Bool, true, false, ◌||◌, List, ◌∷◌, Option, Some, None}
 use Rattle.js_reading.specs.Slots.{Slot, Sign, Expr_}
 use Rattle.js_reading.specs.declared.form.Form.{Form}
 use Rattle.js_reading.specs.declared.form.Form.TheVariants as form

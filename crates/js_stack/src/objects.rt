@@ -1,14 +1,10 @@
-ghost use Rattle.std.specs.Prelude.{◌≡◌, codes};
-ghost use Rattle.std.specs.Str.{bytes_eq};
+ghost use Rattle.std.specs.Prelude.{◌≡◌};
 ghost use Rattle.js_tree.specs.Tree.{plain_property_key};
-ghost use Rattle.js_reading.specs.Kinds as kinds;
-ghost use Rattle.js_reading.specs.Makes as makes;
 ghost use Rattle.js_build.specs.View.{plain_piece, plain_pieces};
 ghost use Rattle.js_stack.specs.Objects as spec;
 ghost use Rattle.js_stack.specs.declared.objects.Awaits.TheVariants as awaits;
 
-use js_build::Piece;
-use js_text::reserved_word;
+use js_build::{Piece, is_keyword, is_proto};
 use js_tree::PropertyKey;
 
 /// The part of an object that is awaited (ECMA-262, 13.2.5).
@@ -36,36 +32,6 @@ pub(crate) enum Awaits {
     BodyEnd,
     /// Nothing: it is no object.
     Nothing,
-}
-
-/// `__proto__` in 16-bit units.
-const PROTO: [u16; 9] = [95, 95, 112, 114, 111, 116, 111, 95, 95];
-
-/// Whether a word can be no name (12.7.2).
-#[tactic(auto, unfolding(js_reading::specs::Kinds::is_keyword))]
-fn is_keyword(word: &str) -> bool
-    ensures { result ≡ kinds.is_keyword word.now }
-{
-    reserved_word(word).is_some()
-}
-
-/// Whether a string's units are `__proto__`.
-fn is_proto_string(units: &[u16]) -> bool
-    ensures { result ≡ bytes_eq units.now (codes "__proto__") }
-{
-    units == PROTO.as_slice()
-}
-
-/// Whether a key is `__proto__`, which with `:` is no form of the language.
-#[tactic(auto, using(js_build::proofs::ObjectLaws::key_rules))]
-fn is_proto(key: &PropertyKey) -> bool
-    ensures { result ≡ makes.is_proto (plain_property_key key.now) }
-{
-    match key {
-        PropertyKey::NameKey(name) => name.as_str() == "__proto__",
-        PropertyKey::StringKey(string) => is_proto_string(string.units.as_slice()),
-        PropertyKey::NumberKey(_) | PropertyKey::ComputedKey(_) => false,
-    }
 }
 
 /// Whether a key may be a property alone: a name that is no reserved word.
