@@ -1,6 +1,7 @@
 -- One more frame on the stack, and what the frames come to.
-use Rattle.std.proofs.Common.{◌≡◌, ℕ, ◌+◌, max, Bool, true, false, List, [], ◌∷◌, ◌++◌, length, Some, None, refl, sym, ap, subst, ◌∙◌, arith}
+use Rattle.std.proofs.Common.{◌≡◌, ℕ, ◌+◌, max, Bool, true, false, List, [], ◌∷◌, ◌++◌, length, Option, Some, None, Result, IfOk, refl, sym, ap, subst, ◌∙◌, arith}
 use Rattle.std.specs.Prelude.{◌==◌}
+use Rattle.std.specs.Option.{SomeIff, ok_or}
 use Rattle.std.proofs.lemmas.Bool.{ne_eqb}
 use Rattle.std.proofs.lemmas.List.{reverse-append}
 use Rattle.js_reading.specs.Slots.{Wanted, Slot, Expr_, Level, WithoutIn, By}
@@ -139,5 +140,10 @@ template_some (r ∷ []) s outside h = let e : r ≡ s = cc in ap (λ x. templat
 template_some (r ∷ q ∷ ss) s outside h =
     let e : r ≡ s = cc in
     ap (λ x. template_next (plain_slot x) false outside) e ∙ ap (λ b. template_next (plain_slot s) b outside) (sym (ne_eqb (length (r ∷ q ∷ ss)) 1 (omega arith)))
+
+-- a sum is there where it fits
+pub sum_if : {E : Type 0} (why : E) (r : Result ℕ E) (o : Option ℕ) (P : Type 0) (n : ℕ) → r ≡ ok_or o why → SomeIff o P n → IfOk r (λ both. both ≡ n)
+sum_if why r None P n e h = subst (λ x. IfOk x (λ both. both ≡ n)) (sym e) tt
+sum_if why r (Some x) P n e h = subst (λ x. IfOk x (λ both. both ≡ n)) (sym e) h.1
 
 pub ruleset stack_rules = (stack_empty, counted_empty, stack_push)
