@@ -28,3 +28,16 @@ max_of a b x y m p q r = rw (p, q, r)
 
 pub more_of : (a b x y m : ℕ) → m ≡ joined_more a b → a ≡ x → b ≡ y → m ≡ joined_more x y
 more_of a b x y m p q r = rw (p, q, r)
+
+-- one more than what is the same, and than the highest of three
+pub one_same : {a x : ℕ} → a ≡ x → x + 1 ≡ a + 1
+one_same p = rw p
+
+pub highest_same : {a b x y m : ℕ} → m ≡ max a b → a ≡ x → b ≡ y → max x y + 1 ≡ m + 1
+highest_same p q r = rw (p, q, r)
+
+pub highest_three : {a b d x y z m n : ℕ} → n ≡ max a m → m ≡ max b d → a ≡ x → b ≡ y → d ≡ z → max x (max y z) + 1 ≡ n + 1
+highest_three o p q r s = rw (o, p, q, r, s)
+
+pub all_same : {a x b y : ℕ} {d z : Bool} → a ≡ x → b ≡ y → d ≡ z → triple a b d ≡ triple x y z
+all_same p q r = rw (p, q, r)

@@ -1,4 +1,4 @@
-use Rattle.std.proofs.Common.{◌≡◌, Some, None, subst, sym, arith}
+use Rattle.std.proofs.Common.{◌≡◌, ◌∙◌, Ok, Some, None, ap, subst, sym}
 use Rattle.js_lexer.specs.Token.{plain_token}
 use Rattle.js_reading.specs.Reads.{asked_for}
 use Rattle.js_stack.specs.Reader.{machine}
@@ -21,25 +21,25 @@ returns-in-Err-take-clause-refused c =
 
 pub refused-requires-clause-told : goal.refused-requires-clause-told
 refused-requires-clause-told c =
-    let refused = left c.in-Ok-take.taken (machine c.args.reader.now) (machine c.take.new.reader) (plain_token c.in-Ok.token) c.args.limit c.in-Ok-take.ensures.taken (grind (arith, c.if-not-taken.true)) in
+    let refused = left c.in-Ok-take.taken (machine c.args.reader.now) (machine c.take.new.reader) (plain_token c.in-Ok.token) c.args.limit c.in-Ok-take.ensures.taken c.if-not-taken.true in
     tells_refused c.args.text.now c.args.lexer.now c.ask.new.lexer (machine c.args.reader.now) c.args.kept.now c.args.recent.now (plain_token c.in-Ok.token) c.in-Ok.token.start c.found_beyond-found.result c.requires.stands c.requires.going c.in-Ok.ensures.start
     (subst (λ g. asked_for g c.args.lexer.now ≡ Some (plain_token c.in-Ok.token, c.ask.new.lexer)) c.goal.ensures c.in-Ok.ensures.token) refused
     (ok_then c.found_beyond-found.result _ _ c.found_beyond-found.ensures (λ find h. h c.requires.stands.turns (machine c.args.reader.now) c.requires.stands.remembers c.see-seen.ensures refused))
 
 pub left_out-requires-clause-told : goal.left_out-requires-clause-told
 left_out-requires-clause-told c =
-    let read = took c.in-Ok-take.taken (machine c.args.reader.now) (machine c.take.new.reader) (plain_token c.in-Ok.token) c.args.limit c.in-Ok-take.ensures.taken (grind (arith, c.if-not-taken.false)) in
+    let read = took c.in-Ok-take.taken (machine c.args.reader.now) (machine c.take.new.reader) (plain_token c.in-Ok.token) c.args.limit c.in-Ok-take.ensures.taken c.if-not-taken.false in
     tells_read c.args.text.now c.args.lexer.now c.ask.new.lexer (machine c.args.reader.now) c.args.kept.now c.args.recent.now (plain_token c.in-Ok.token) c.in-Ok-Some.find c.requires.stands c.requires.going
     (subst (λ g. asked_for g c.args.lexer.now ≡ Some (plain_token c.in-Ok.token, c.ask.new.lexer)) c.goal.ensures c.in-Ok.ensures.token)
-    (sym (found_then c.found_read.result (Some c.in-Ok-Some.find) _ c.found_read.ensures (grind (arith, c.in-Ok-Some.is, c.in-Ok-Some.field-0-is)) c.requires.stands.led.tokens c.requires.stands.turns (machine c.args.reader.now) (machine c.take.new.reader) c.requires.stands.remembers c.see-seen.ensures c.outside.ensures c.requires.stands.searched read.0))
+    (sym (found_then c.found_read.result (Some c.in-Ok-Some.find) _ c.found_read.ensures (c.in-Ok-Some.is ∙ ap Ok c.in-Ok-Some.field-0-is) c.requires.stands.led.tokens c.requires.stands.turns (machine c.args.reader.now) (machine c.take.new.reader) c.requires.stands.remembers c.see-seen.ensures c.outside.ensures c.requires.stands.searched read.0))
 
 pub returns-clause-stands : goal.returns-clause-stands
 returns-clause-stands c =
-    let read = took c.in-Ok-take.taken (machine c.args.reader.now) (machine c.take.new.reader) (plain_token c.in-Ok.token) c.args.limit c.in-Ok-take.ensures.taken (grind (arith, c.if-not-taken.false)) in
+    let read = took c.in-Ok-take.taken (machine c.args.reader.now) (machine c.take.new.reader) (plain_token c.in-Ok.token) c.args.limit c.in-Ok-take.ensures.taken c.if-not-taken.false in
     stands_on c.args.text.now c.args.lexer.now c.ask.new.lexer (machine c.args.reader.now) (machine c.take.new.reader) c.args.kept.now c.keep.new.kept c.args.recent.now c.push.new.self (plain_token c.in-Ok.token) c.requires.stands
     (subst (λ g. asked_for g c.args.lexer.now ≡ Some (plain_token c.in-Ok.token, c.ask.new.lexer)) c.goal.ensures c.in-Ok.ensures.token)
     read.0
-    (sym (found_then c.found_read.result None _ c.found_read.ensures (grind (arith, c.in-Ok-None.is, c.in-Ok-None.field-0-is)) c.requires.stands.led.tokens c.requires.stands.turns (machine c.args.reader.now) (machine c.take.new.reader) c.requires.stands.remembers c.see-seen.ensures c.outside.ensures c.requires.stands.searched read.0))
-    (holds c.push.result _ c.push.ensures (grind (arith, c.is_err-2.ensures, c.if-is_err-2.false)) c.requires.stands.turns (machine c.args.reader.now) c.requires.stands.remembers c.see-seen.ensures.0)
-    (holds c.keep.result _ c.keep.ensures (grind (arith, c.is_err.ensures, c.if-is_err.false)))
+    (sym (found_then c.found_read.result None _ c.found_read.ensures (c.in-Ok-None.is ∙ ap Ok c.in-Ok-None.field-0-is) c.requires.stands.led.tokens c.requires.stands.turns (machine c.args.reader.now) (machine c.take.new.reader) c.requires.stands.remembers c.see-seen.ensures c.outside.ensures c.requires.stands.searched read.0))
+    (holds c.push.result _ c.push.ensures (sym c.is_err-2.ensures.value ∙ c.if-is_err-2.false) c.requires.stands.turns (machine c.args.reader.now) c.requires.stands.remembers c.see-seen.ensures.0)
+    (holds c.keep.result _ c.keep.ensures (sym c.is_err.ensures.value ∙ c.if-is_err.false))
     c.in-Ok.ensures.text

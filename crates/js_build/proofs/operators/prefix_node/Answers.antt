@@ -1,0 +1,12 @@
+use Rattle.std.proofs.Common.{◌∙◌, Some, ap, sym}
+use Rattle.js_tree.proofs.Equations.{expr_prefix_update}
+use Rattle.js_build.specs.Measures.{measures}
+use Rattle.js_build.proofs.MadeAs.{makes_expr}
+use Rattle.js_build.proofs.NodeMeasures.{all_same, one_same}
+use Rattle.js_build.proofs.operators.prefix_node.Goals as goal
+
+pub expression-requires : goal.expression-requires
+expression-requires c = ap measures (expr_prefix_update c.args.operator c.args.operand.tree (Some c.args.place)) ∙ all_same (one_same c.args.operand.height_exact) (sym c.args.operand.last_exact) (sym c.args.operand.bare_exact)
+
+pub returns : goal.returns
+returns c = makes_expr c.expression.result 17 (expr_prefix_update c.args.operator c.args.operand.tree (Some c.args.place)) c.expression.ensures

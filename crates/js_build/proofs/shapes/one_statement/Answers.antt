@@ -1,0 +1,15 @@
+use Rattle.std.proofs.Common.{◌∙◌, sym, ap}
+use Rattle.js_tree.specs.Tree.{plain_stmt}
+use Rattle.js_build.specs.Shapes.{if_over}
+use Rattle.js_build.specs.View.{plain_pieces}
+use Rattle.js_build.proofs.ShapeLaws.{one_stmt_first, stmt_alone}
+use Rattle.js_build.proofs.shapes.one_statement.Goals as goal
+
+pub returns-in-None : goal.returns-in-None
+returns-in-None c = sym (one_stmt_first (plain_pieces c.args.pieces) ∙ ap stmt_alone (sym c.in-None.ensures))
+
+pub returns-then-is_over : goal.returns-then-is_over
+returns-then-is_over c = sym (one_stmt_first (plain_pieces c.args.pieces) ∙ (ap stmt_alone (sym c.in-Some.ensures) ∙ ap (λ b. if_over b (plain_stmt c.in-Some.body.tree)) (sym c.is_over.ensures ∙ c.if-is_over.true)))
+
+pub returns-else-is_over : goal.returns-else-is_over
+returns-else-is_over c = sym (one_stmt_first (plain_pieces c.args.pieces) ∙ (ap stmt_alone (sym c.in-Some.ensures) ∙ ap (λ b. if_over b (plain_stmt c.in-Some.body.tree)) (sym c.is_over.ensures ∙ c.if-is_over.false)))

@@ -1,0 +1,18 @@
+use Rattle.std.proofs.Common.{refl, sym, ◌∙◌}
+use Rattle.js_grammar.proofs.Choosing.{chosen, otherwise}
+use Rattle.js_grammar.proofs.heads.after_bound.Goals as goal
+
+pub returns-then-is_word : goal.returns-then-is_word
+returns-then-is_word c = sym (chosen _ _ _ (sym c.is_word.ensures ∙ c.if-is_word.true))
+
+pub returns-then-is_word-2 : goal.returns-then-is_word-2
+returns-then-is_word-2 c = sym (otherwise _ _ _ _ (sym c.is_word.ensures ∙ c.if-is_word.false) (chosen _ _ _ (sym c.is_word-else-is_word.ensures ∙ c.if-is_word-2.true)))
+
+pub returns-then-is_mark : goal.returns-then-is_mark
+returns-then-is_mark c = sym (otherwise _ _ _ _ (sym c.is_word.ensures ∙ c.if-is_word.false) (otherwise _ _ _ _ (sym c.is_word-else-is_word.ensures ∙ c.if-is_word-2.false) (chosen _ _ _ (sym c.is_mark.ensures ∙ c.if-is_mark.true))))
+
+pub returns-then-is_mark-2 : goal.returns-then-is_mark-2
+returns-then-is_mark-2 c = sym (otherwise _ _ _ _ (sym c.is_word.ensures ∙ c.if-is_word.false) (otherwise _ _ _ _ (sym c.is_word-else-is_word.ensures ∙ c.if-is_word-2.false) (otherwise _ _ _ _ (sym c.is_mark.ensures ∙ c.if-is_mark.false) (chosen _ _ _ (sym c.is_mark-else-is_mark.ensures ∙ c.if-is_mark-2.true)))))
+
+pub returns-else-is_mark-2 : goal.returns-else-is_mark-2
+returns-else-is_mark-2 c = sym (otherwise _ _ _ _ (sym c.is_word.ensures ∙ c.if-is_word.false) (otherwise _ _ _ _ (sym c.is_word-else-is_word.ensures ∙ c.if-is_word-2.false) (otherwise _ _ _ _ (sym c.is_mark.ensures ∙ c.if-is_mark.false) (otherwise _ _ _ _ (sym c.is_mark-else-is_mark.ensures ∙ c.if-is_mark-2.false) refl))))
