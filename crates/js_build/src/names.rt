@@ -6,8 +6,10 @@ ghost use Rattle.js_build.specs.Names.{identifier_of};
 use items::Boxed;
 use js_tree::{Expr, ExprNode, Identifier, Loc, Name, Pattern, PatternNode};
 
-/// Lets a node go, whole, as `discard` does with a piece.
-pub(crate) fn discard_node(_node: ExprNode) {}
+/// Lets a node go, as an expression, whose drop is proved with the tree.
+pub(crate) fn discard_node(node: ExprNode) {
+    drop(Expr { loc: None, node });
+}
 
 /// The name that an expression is alone, if it is one.
 #[tactic(auto, using(js_tree::proofs::Equations::tree_rules))]

@@ -1,4 +1,4 @@
-ghost use Rattle.std.specs.Prelude.{◌≡◌, ◌∷◌, IfOk, Some, codes};
+ghost use Rattle.std.specs.Prelude.{◌≡◌, ◌+◌, ◌∷◌, IfOk, Some, codes, max};
 ghost use Rattle.std.specs.Option.{option_map};
 ghost use Rattle.std.specs.Str.{bytes_eq};
 ghost use Rattle.js_tree.specs.Plain as tree;
@@ -111,6 +111,9 @@ fn take_definition(pieces: &mut Pieces) -> Option<Definition>
     }
 }
 
+/// Lets a key go, whole, as `discard` does with a piece.
+fn discard_key(_key: PropertyKey) {}
+
 /// A name that is the key and the value, where it is no reserved word.
 #[tactic(auto, using(crate::proofs::ObjectLaws::key_rules, crate::proofs::PropertyNodes::shorthand_rules))]
 fn shorthand(key: PropertyKey, place: Loc) -> Option<MadeProperty>
@@ -138,12 +141,19 @@ fn shorthand(key: PropertyKey, place: Loc) -> Option<MadeProperty>
 fn value_node(key: Key, loc: Loc, value: Operand) -> Result<MadeProperty, Memory>
     ensures { IfOk result (λ made. plain_property made.tree ≡ tree.KeyValue (Some loc) (plain_property_key key.tree) (plain_expr value.tree)) }
 {
-    let height = above(key.height.max(value.height))?;
-    let tree = Property {
-        loc: Some(loc),
-        node: PropertyNode::KeyValue(key.tree, value.tree),
-    };
-    Ok(MadeProperty { tree, height })
+    match above(key.height.max(value.height)) {
+        Err(memory) => {
+            discard_key(key.tree);
+            Err(memory)
+        }
+        Ok(height) => {
+            let tree = Property {
+                loc: Some(loc),
+                node: PropertyNode::KeyValue(key.tree, value.tree),
+            };
+            Ok(MadeProperty { tree, height })
+        }
+    }
 }
 
 /// A key and a value, but for `__proto__`.
@@ -151,9 +161,17 @@ fn key_value(key: Key, place: Loc, value: Operand, end: Loc) -> Result<Option<Ma
     ensures { IfOk result (λ made. objects.property_if made ≡ objects.key_value_of (plain_property_key key.tree) place (plain_expr value.tree) end) }
 {
     if is_proto(&key.tree) {
+        discard_key(key.tree);
         return Ok(None);
     }
     Ok(Some(value_node(key, through(place, end), value)?))
+}
+
+/// The height of a method, by those of its key and of its function's highest part.
+fn method_height(key: u64, parts: u64) -> Result<u64, Memory>
+    ensures { IfOk result (λ height. height ≡ max key (parts + 1) + 1) }
+{
+    above(key.max(above(parts)?))
 }
 
 /// A key and a method.
@@ -161,13 +179,19 @@ fn key_value(key: Key, place: Loc, value: Operand, end: Loc) -> Result<Option<Ma
 fn method_node(key: Key, loc: Loc, function: MadeFunction) -> Result<MadeProperty, Memory>
     ensures { IfOk result (λ made. plain_property made.tree ≡ tree.Method (Some loc) (plain_property_key key.tree) (plain_function function.tree)) }
 {
-    let high = above(function.parts)?;
-    let height = above(key.height.max(high))?;
-    let tree = Property {
-        loc: Some(loc),
-        node: PropertyNode::Method(key.tree, function.tree),
-    };
-    Ok(MadeProperty { tree, height })
+    match method_height(key.height, function.parts) {
+        Err(memory) => {
+            discard_key(key.tree);
+            Err(memory)
+        }
+        Ok(height) => {
+            let tree = Property {
+                loc: Some(loc),
+                node: PropertyNode::Method(key.tree, function.tree),
+            };
+            Ok(MadeProperty { tree, height })
+        }
+    }
 }
 
 /// A method after its key and its mark.
@@ -179,9 +203,16 @@ fn method(
 ) -> Result<Option<MadeProperty>, Memory>
     ensures { IfOk result (λ made. objects.property_view made (plain_pieces pieces.new) ≡ makes.method_with (plain_property_key key.tree) place (makes.method_of (plain_pieces pieces.old))) }
 {
-    match callable(alloc, pieces)? {
-        None => Ok(None),
-        Some((function, end)) => Ok(Some(method_node(key, through(place, end), function)?)),
+    match callable(alloc, pieces) {
+        Err(memory) => {
+            discard_key(key.tree);
+            Err(memory)
+        }
+        Ok(None) => {
+            discard_key(key.tree);
+            Ok(None)
+        }
+        Ok(Some((function, end))) => Ok(Some(method_node(key, through(place, end), function)?)),
     }
 }
 
@@ -196,7 +227,10 @@ fn after_key(
     ensures { IfOk result (λ made. objects.property_view made (plain_pieces pieces.new) ≡ makes.after_key (plain_property_key key.tree) place (plain_pieces pieces.old)) }
 {
     match take_definition(pieces) {
-        None => Ok(None),
+        None => {
+            discard_key(key.tree);
+            Ok(None)
+        }
         Some(Definition::Shorthand) => Ok(shorthand(key.tree, place)),
         Some(Definition::Value(value, end)) => key_value(key, place, value, end),
         Some(Definition::Method) => method(alloc, key, place, pieces),

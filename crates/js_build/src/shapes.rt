@@ -68,8 +68,12 @@ pub(crate) fn take_place(pieces: &mut Pieces) -> Option<Loc>
     ensures read { place_taken result (plain_pieces pieces.new) ≡ first_place (plain_pieces pieces.old) }
     ensures shorter { length pieces.new ≤ length pieces.old }
 {
-    match pieces.next() {
-        Some(Piece::Place(place)) => Some(place),
+    let piece = pieces.next();
+    match piece {
+        Some(Piece::Place(place)) => {
+            discard(piece);
+            Some(place)
+        }
         other => {
             discard(other);
             None

@@ -4,7 +4,7 @@ use Rattle.js_build.proofs.PropertyNodes.{value_tree, value_high}
 use Rattle.js_build.proofs.objects.value_node.Goals as goal
 
 pub invariant_of-result : goal.invariant_of-result
-invariant_of-result c = record { height_exact = c.in_ok-height.ensures ∙ sym (value_high c.args.key.tree c.args.value.tree (Some c.args.loc) ∙ max_same _ _ _ _ _ c.max.ensures c.args.key.height_exact c.args.value.height_exact) }
+invariant_of-result c = record { height_exact = c.in-Ok.ensures ∙ sym (value_high c.args.key.tree c.args.value.tree (Some c.args.loc) ∙ max_same _ _ _ _ _ c.max.ensures c.args.key.height_exact c.args.value.height_exact) }
 
-pub returns : goal.returns
-returns c = value_tree c.args.key.tree c.args.value.tree (Some c.args.loc)
+pub returns-in-Ok : goal.returns-in-Ok
+returns-in-Ok c = value_tree c.args.key.tree c.args.value.tree (Some c.args.loc)
