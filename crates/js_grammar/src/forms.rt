@@ -2,7 +2,7 @@ ghost use Rattle.std.specs.Prelude.{◌≡◌};
 ghost use Rattle.js_text.specs.Token as T;
 ghost use Rattle.js_lexer.specs.Token.{kind_of, plain_token};
 ghost use Rattle.js_reading.specs.Productions as productions;
-ghost use Rattle.js_grammar.specs.private.Told.{prefix_of, statement_of, join_of};
+ghost use Rattle.js_grammar.specs.private.Told.{among, compounds, join_of, lasts, leavings, prefix_of, statement_of};
 
 use js_lexer::{Token, TokenKind};
 use js_reading::Form;
@@ -91,7 +91,16 @@ fn statement_word(word: &str) -> Option<Form>
         Some(Form::Variables(VariableKind::Const))
     } else if word == "function" {
         Some(Form::FunctionDeclaration)
-    } else if word == "if" {
+    } else {
+        compound_word(word)
+    }
+}
+
+/// The `if` or the loop that a word begins, or one of those after them in the table.
+fn compound_word(word: &str) -> Option<Form>
+    ensures { result ≡ among compounds (T.Word word.now) }
+{
+    if word == "if" {
         Some(Form::If)
     } else if word == "for" {
         Some(Form::For)
@@ -99,7 +108,16 @@ fn statement_word(word: &str) -> Option<Form>
         Some(Form::While)
     } else if word == "do" {
         Some(Form::DoWhile)
-    } else if word == "continue" {
+    } else {
+        leaving_word(word)
+    }
+}
+
+/// The jump or the `switch` that a word begins, or one of those after them in the table.
+fn leaving_word(word: &str) -> Option<Form>
+    ensures { result ≡ among leavings (T.Word word.now) }
+{
+    if word == "continue" {
         Some(Form::Continue)
     } else if word == "break" {
         Some(Form::Break)
@@ -107,7 +125,15 @@ fn statement_word(word: &str) -> Option<Form>
         Some(Form::Return)
     } else if word == "switch" {
         Some(Form::Switch)
-    } else if word == "throw" {
+    } else {
+        last_word(word)
+    }
+}
+
+fn last_word(word: &str) -> Option<Form>
+    ensures { result ≡ among lasts (T.Word word.now) }
+{
+    if word == "throw" {
         Some(Form::Throw)
     } else if word == "try" {
         Some(Form::Try)

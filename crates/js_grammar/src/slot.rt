@@ -3,7 +3,7 @@ use js_text::Punctuator;
 use js_tree::VariableKind;
 
 /// A word that stands in a production.
-#[derive(Clone, Copy, Debug)]
+#[derive(Clone, Copy)]
 pub enum ProductionWord {
     /// `break`
     Break,
@@ -62,7 +62,7 @@ pub enum ProductionWord {
 }
 
 /// A token that a production has as it is.
-#[derive(Clone, Copy, Debug)]
+#[derive(Clone, Copy)]
 pub enum Sign {
     /// A punctuator.
     Mark(Punctuator),
@@ -71,7 +71,7 @@ pub enum Sign {
 }
 
 /// Which expression a place takes.
-#[derive(Clone, Copy, Debug)]
+#[derive(Clone, Copy)]
 pub enum Wanted {
     /// One of this level at least.
     Level(u8),
@@ -82,7 +82,7 @@ pub enum Wanted {
 }
 
 /// What stands in a production.
-#[derive(Clone, Copy, Debug)]
+#[derive(Clone, Copy)]
 pub enum Slot {
     /// This token.
     Sign(Sign),
@@ -103,7 +103,7 @@ pub enum Slot {
 }
 
 /// A piece that no token spells: what was chosen.
-#[derive(Clone, Copy, Debug)]
+#[derive(Clone, Copy)]
 pub enum Marker {
     /// A part that is left out.
     Missing,
@@ -120,7 +120,7 @@ pub enum Marker {
 }
 
 /// What the next token chooses.
-#[derive(Clone, Copy, Debug)]
+#[derive(Clone, Copy)]
 pub enum Branch {
     /// It may not stand there.
     Refuse,
