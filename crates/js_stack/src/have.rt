@@ -14,7 +14,7 @@ use crate::Refusal;
 use crate::leave::{leave, left, takes};
 use crate::left::Left;
 use crate::parts::Parts;
-use crate::production::{Frame, Place, Production, Turn};
+use crate::production::{Frame, Place, Production, Turn, discard_frame};
 use crate::stack::Stack;
 use js_build::{Body, Operand, Piece};
 use js_grammar::{Wanted, bans, continues, join, rest, wants};
@@ -127,6 +127,7 @@ pub(crate) fn have(
     };
     if goes_on(&frame, &operand, token) {
         if is_banned {
+            discard_frame(Some(frame));
             return Err(Refusal::Syntax);
         }
         stack.push(frame)?;

@@ -8,7 +8,7 @@ ghost use Rattle.js_build.specs.View.{plain_pieces};
 ghost use Rattle.js_stack.specs.Stack as spec;
 ghost use Rattle.js_stack.specs.View.{plain_frame, frames};
 
-use crate::production::{Frame, Production};
+use crate::production::{Frame, Production, discard_frame};
 use items::Memory;
 use js_grammar::{Slot, Wanted};
 use js_reading::{Choice, Form};
@@ -86,7 +86,13 @@ impl Stack {
     pub(crate) fn push(&mut self, inner: Frame) -> Result<(), Memory>
         ensures { OnOk result (self.new ≡ inner ∷ self.old) }
     {
-        let counts = over(self.counts, &inner)?;
+        let counts = match over(self.counts, &inner) {
+            Ok(counts) => counts,
+            Err(memory) => {
+                discard_frame(Some(inner));
+                return Err(memory);
+            }
+        };
         self.held.push(Held {
             frame: inner,
             outside: self.counts,

@@ -10,7 +10,7 @@ ghost use Rattle.js_stack.specs.View.{plain_frame, frames, Gives};
 use crate::Refusal;
 use crate::left::Left;
 use crate::parts::Parts;
-use crate::production::{Frame, Place, Production};
+use crate::production::{Frame, Place, Production, discard_frame};
 use crate::stack::Stack;
 use items::Memory;
 use js_grammar::{Wanted, prefix, rest, statement};
@@ -171,6 +171,7 @@ fn begin_by(
     match by {
         Some(form) => {
             if declares(form) && !lists(&frame) {
+                discard_frame(Some(frame));
                 return Err(Refusal::Syntax);
             }
             stack.push(frame)?;

@@ -7,7 +7,7 @@ use crate::have::settle;
 use crate::leave::{finished, is_end};
 use crate::parts::Parts;
 use crate::pass::pass;
-use crate::production::{Frame, Place, Turn, discard_frame};
+use crate::production::{Frame, Place, Turn, discard_frame, discard_place};
 use crate::stack::Stack;
 use crate::start::{begin, want};
 use js_build::{Piece, Statements};
@@ -67,8 +67,17 @@ pub(crate) fn turn(
             settle(alloc, stack, Turn::Expression(operand, last), token)
         }
         Place::Statement(body, last) => settle(alloc, stack, Turn::Statement(body, last), token),
-        Place::Item => item(alloc, stack, token),
-        Place::Start => begin_file(alloc, stack, token),
-        Place::Finished(_) => Err(Refusal::Syntax),
+        Place::Item => {
+            discard_place(place);
+            item(alloc, stack, token)
+        }
+        Place::Start => {
+            discard_place(place);
+            begin_file(alloc, stack, token)
+        }
+        Place::Finished(_) => {
+            discard_place(place);
+            Err(Refusal::Syntax)
+        }
     }
 }

@@ -8,8 +8,8 @@ invariant_of-self-2 c =
     c.self.inside.held.items
     _
     (record { frame = c.args.inner; outside = c.self.inside.counts })
-    c.in_ok-counts.counts
+    c.in-Ok.counts
     c.in_ok-push.ensures.items
     c.self.invariant.0
     c.self.invariant.1
-    c.in_ok-counts.ensures
+    c.in-Ok.ensures
