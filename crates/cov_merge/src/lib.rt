@@ -20,4 +20,4 @@ mod tally;
 pub use fault::MergeFault;
 pub use key::{Counter, Key};
 pub use laws::{any_order, each_key, each_path};
-pub use maps::{merge, merge_all};
+pub use maps::{merge, merge_all, merge_files};

@@ -1,4 +1,4 @@
-ghost use Rattle.std.specs.Prelude.{◌≡◌, [], ◌++◌, fold, OnOk};
+ghost use Rattle.std.specs.Prelude.{◌≡◌, [], ◌++◌, fold, map, OnOk};
 ghost use Rattle.std.specs.List.{flat_map};
 ghost use Rattle.cov_merge.specs.Answer.{Answers};
 ghost use Rattle.cov_merge.specs.Maps.{merged, merged_groups, with_file};
@@ -37,6 +37,22 @@ pub fn merge_all(alloc: Global, maps: &[CoverageMap]) -> Result<CoverageMap, Mer
     let mut groups = BTreeMap::new(alloc);
     for map in maps {
         add_map(alloc, &mut groups, map)?;
+    }
+    merge_groups(alloc, groups)
+}
+
+/// Files as a coverage map: for each path and key, the sum of the counts of all entries with that key in
+/// the files at that path, as `merge` gives it. The files stand in any order, and several may have one
+/// path.
+///
+/// # Errors
+/// As `merge`.
+pub fn merge_files(alloc: Global, files: &[&FileCoverage]) -> Result<CoverageMap, MergeFault>
+    ensures { Answers result (merged (map (λ file. file.now) files.now)) }
+{
+    let mut groups = BTreeMap::new(alloc);
+    for file in files {
+        add_file(alloc, &mut groups, file)?;
     }
     merge_groups(alloc, groups)
 }

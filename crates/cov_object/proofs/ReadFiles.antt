@@ -13,7 +13,8 @@ use Rattle.serde_json.specs.Find.{get, get_member}
 use Rattle.cov_object.specs.declared.file.FileCoverage.{FileCoverage}
 use Rattle.cov_object.specs.declared.fault.CoverageFault.{CoverageFault}
 use Rattle.cov_object.specs.declared.fault.CoverageFault.TheVariants.{TooLong}
-use Rattle.cov_object.specs.Read.{after, path_or_fault, path_of, numbered_of, origin_of, text_in, file_of, json_of, value_or_fault, most_bytes, coverage_of}
+use Rattle.cov_object.specs.JsonText.{json_of}
+use Rattle.cov_object.specs.Read.{after, path_or_fault, path_of, numbered_of, origin_of, text_in, file_of, value_or_fault, most_bytes, coverage_of}
 
 -- ---- depths
 

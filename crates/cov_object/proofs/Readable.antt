@@ -5,7 +5,8 @@ use Rattle.std.proofs.lemmas.Fmt.{IsAscii-decimal}
 use Rattle.json.proofs.Printed.Utf8.{IsUtf8-are_ascii}
 use Rattle.cov_object.specs.Numbered.{AreSmall}
 use Rattle.cov_object.specs.Files.{AreInOrder, HaveSmallIds}
-use Rattle.cov_object.specs.Read.{json_of, value_or_fault, most_bytes, coverage_of}
+use Rattle.cov_object.specs.JsonText.{json_of}
+use Rattle.cov_object.specs.Read.{value_or_fault, most_bytes, coverage_of}
 use Rattle.cov_object.specs.declared.fault.CoverageFault.TheVariants as fault
 use Rattle.cov_object.proofs.ReadFiles.{json_of-text}
 use Rattle.cov_object.proofs.ReadBack.{value-read}

@@ -1,5 +1,6 @@
 pub mod Files
 pub mod Json
+pub mod JsonText
 pub mod Location
 pub mod Numbered
 pub mod private

@@ -2,13 +2,12 @@
 -- A member that is not named here is passed over, in every object.
 use Rattle.std.specs.Prelude.{ℕ, ◌+◌, ◌*◌, ◌-◌, ◌^◌, List, [], ◌∷◌, ◌++◌, length, Bool, true, false, not, ◌&&◌, ◌==◌, nat_lt, nat_le, bytes_eq, if◌then◌else◌, Option, Some, None, option_map, option_and_then, is_some, Result, Ok, Err, codes, decimal}
 use Rattle.std.specs.Char.{is_ascii_digit}
-use Rattle.std.specs.Str.{is_utf8}
 use Rattle.std.specs.Ordering.{nat_cmp}
 use Rattle.std.specs.BTreeMap.{insert_entry}
 use Rattle.serde_json.specs.Data.{Data, Items, no_items, item, Members, no_members, member}
 use Rattle.serde_json.specs.Find.{get, as_null, as_number, as_str, as_array, as_object, as_u64}
-use Rattle.serde_json.specs.Read.{read}
 use Rattle.serde_json.specs.Written.{compact_text, has_float}
+use Rattle.cov_object.specs.JsonText.{json_of}
 use Rattle.cov_object.specs.declared.fault.CoverageFault.{CoverageFault}
 use Rattle.cov_object.specs.declared.fault.CoverageFault.TheVariants as fault
 use Rattle.cov_object.specs.declared.location.Position.{Position}
@@ -310,10 +309,6 @@ files_of (member path value rest) = after (file_of path value) (λ file. after (
 abbrev pub files_or_fault : Option Members → Result (List FileCoverage) CoverageFault
 files_or_fault None = Err (fault.BadMember [] (codes "file"))
 files_or_fault (Some members) = files_of members
-
--- the value that bytes are as JSON, which is UTF-8
-abbrev pub json_of : List ℕ → Option Data
-json_of bytes = if is_utf8 bytes then read bytes else None
 
 abbrev pub value_or_fault : Option Data → Result (List FileCoverage) CoverageFault
 value_or_fault None = Err fault.BadJson

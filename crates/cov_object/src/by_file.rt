@@ -14,6 +14,7 @@ ghost use Rattle.cov_object.specs.private.ByFile.{begins_object, answers, answer
 
 use crate::fault::{CoverageFault, bad_member};
 use crate::file::FileCoverage;
+use crate::json_text::text_value;
 use crate::json_value::{Unread, next_value};
 use crate::map::CoverageMap;
 use crate::read::read_file;
@@ -143,12 +144,9 @@ fn no_object(alloc: Global, text: &str) -> CoverageFault
     requires { option_and_then as_object (read_text text.now) ≡ None }
     ensures { result ≢ OutOfMemory → spec.value_or_fault (read_text text.now) ≡ Err result }
 {
-    match Value::from_str(alloc, text) {
-        Ok(_) => bad_member(alloc, "", "file"),
-        Err(error) => if error.is_memory() {
-            CoverageFault::Memory
-        } else {
-            CoverageFault::BadJson
-        },
+    match text_value(alloc, text) {
+        Ok(Some(_)) => bad_member(alloc, "", "file"),
+        Ok(None) => CoverageFault::BadJson,
+        Err(AllocError) => CoverageFault::Memory,
     }
 }

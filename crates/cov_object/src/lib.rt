@@ -13,6 +13,7 @@ mod floats;
 mod formed;
 mod from_value;
 mod ids;
+mod json_text;
 mod json_value;
 mod list;
 mod location;
@@ -30,6 +31,7 @@ mod write;
 
 pub use fault::CoverageFault;
 pub use file::{BranchCoverage, FileCoverage, FunctionCoverage, PathCoverage, StatementCoverage};
+pub use json_text::read_value;
 pub use location::{Location, Position};
 pub use map::CoverageMap;
 pub use number::{Count, Line};

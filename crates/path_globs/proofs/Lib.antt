@@ -1,2 +1,3 @@
 mod NormalFormLemmas
 mod SpecifierLemmas
+mod BesideLemmas

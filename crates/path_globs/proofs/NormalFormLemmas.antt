@@ -13,7 +13,7 @@ join_by-slash [] = refl
 join_by-slash (part ∷ []) = append-nil part.now
 join_by-slash (part ∷ next ∷ parts) = ap (λ rest. part.now ++ 47 ∷ rest) (join_by-slash (next ∷ parts))
 
-bytes_ne : (xs ys : List ℕ) → xs ≢ ys → bytes_eq xs ys ≡ false
+pub bytes_ne : (xs ys : List ℕ) → xs ≢ ys → bytes_eq xs ys ≡ false
 bytes_ne xs ys other = by_test (bytes_eq xs ys) refl
   where
     by_test : (test : Bool) → bytes_eq xs ys ≡ test → test ≡ false

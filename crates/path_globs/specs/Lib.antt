@@ -1,3 +1,4 @@
 pub mod NormalForm
 pub mod Specifier
+pub mod Beside
 pub mod Rows

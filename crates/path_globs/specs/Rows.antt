@@ -2,6 +2,7 @@
 use Rattle.std.specs.Prelude.{◌≡◌, ℕ, List, [], ◌∷◌, map, Option, Some, None, codes}
 use Rattle.path_globs.specs.NormalForm.{normal}
 use Rattle.path_globs.specs.Specifier.{resolve}
+use Rattle.path_globs.specs.Beside.{beside}
 
 -- a function takes what stands left in each row to what stands right
 abbrev pub Agrees : {A B : Type 0} → (A → B) → List (A × B) → Type 0
@@ -46,3 +47,20 @@ resolve_rows =
 
 abbrev pub Resolved : Type 0
 Resolved = Agrees (λ row. resolve row.0 row.1) resolve_rows
+
+-- the path of a file, and a path from its folder
+abbrev beside_rows : List ((List ℕ × List ℕ) × List ℕ)
+beside_rows =
+    ((codes "a.js", codes "a.ts"), codes "a.ts") ∷
+    ((codes "out/a.js", codes "../src/a.ts"), codes "src/a.ts") ∷
+    ((codes "out/a.js", codes "./a.ts"), codes "out/a.ts") ∷
+    ((codes "a.js", codes "../src/a.ts"), codes "../src/a.ts") ∷
+    ((codes "out/a.js", codes "../../../src/./x//a.ts"), codes "../../src/x/a.ts") ∷
+    ((codes "a.js", codes "x/../../../a.ts"), codes "../../a.ts") ∷
+    ((codes "/w/out/a.js", codes "../a.ts"), codes "/w/a.ts") ∷
+    ((codes "/out/a.js", codes "../../a.ts"), codes "/../a.ts") ∷
+    ((codes "out/a.js", codes "b:/a.ts"), codes "out/b:/a.ts") ∷
+    []
+
+abbrev pub Beside : Type 0
+Beside = Agrees (λ row. beside row.0 row.1) beside_rows

@@ -1,10 +1,12 @@
-//! Paths: their normal form, and what a file asks for.
+//! Paths: their normal form, what a file asks for, and what stands beside it.
 #![tactic(auto)]
 
+mod beside;
 mod normal_form;
 mod rows;
 mod specifier;
 
+pub use beside::path_beside;
 pub use normal_form::normal;
 pub use rows::worked_paths;
 pub use specifier::resolve;

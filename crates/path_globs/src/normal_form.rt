@@ -19,7 +19,7 @@ pub fn normal(alloc: Global, path: &str) -> Result<Option<String>, Memory>
 }
 
 /// Whether a path is one from the root: whether it begins with `/`.
-fn is_from_root(path: &str) -> bool
+pub(crate) fn is_from_root(path: &str) -> bool
     ensures { result ≡ spec.is_from_root path.now }
 {
     path.starts_with('/')
@@ -41,7 +41,7 @@ fn take<'a>(kept: &mut Vec<&'a str>, component: &'a str) -> Result<bool, Memory>
 }
 
 /// The path of these components, from the root or not.
-fn spelled(alloc: Global, from_root: bool, components: &[&str]) -> Result<String, Memory>
+pub(crate) fn spelled(alloc: Global, from_root: bool, components: &[&str]) -> Result<String, Memory>
     ensures { IfOk result (λ text. string_bytes text ≡ spec.spelled from_root (map (λ part. part.now) components.now)) }
 {
     let root = root_of(from_root);

@@ -35,7 +35,7 @@ fn joined(alloc: Global, from: &str, specifier: &str) -> Result<String, Memory>
 }
 
 /// A path up to and with its last `/`: nothing where it has none.
-fn folder(path: &str) -> &str
+pub(crate) fn folder(path: &str) -> &str
     ensures { result.now ≡ spec.folder path.now }
 {
     match path.rfind('/') {

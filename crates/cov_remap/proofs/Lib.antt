@@ -1,0 +1,11 @@
+pub mod Totals
+pub mod Spread
+pub mod Merged
+pub mod Whole
+pub mod Once
+pub mod Apart
+pub mod Exact
+pub mod Early
+pub mod PieceLemmas
+pub mod Reports
+pub mod EachKind

@@ -1,0 +1,14 @@
+pub mod NumbersLemmas
+pub mod PiecesLemmas
+pub mod SegmentLemmas
+pub mod LinesLemmas
+pub mod TraceLemmas
+pub mod WriteLemmas
+pub mod ReadBack
+pub mod SortLemmas
+pub mod ReaderLemmas
+pub mod DigitsLemmas
+pub mod WholeText
+pub mod FitLemmas
+pub mod MapLemmas
+pub mod SearchLemmas

@@ -1,0 +1,7 @@
+use Rattle.std.proofs.Common.{◌≡◌, map, take}
+use Rattle.serde_json.specs.Data.{string}
+use Rattle.serde_json.specs.View.{view}
+use Rattle.source_map.proofs.written.name_values.Given as goal
+
+abbrev pub invariant-loop-name : goal.invariant-loop-name
+invariant-loop-name l = map view l.values.items ≡ map (λ text. string text) (take l.name-index l.parts.names)

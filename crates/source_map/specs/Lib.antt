@@ -1,0 +1,9 @@
+pub mod Vlq
+pub mod Mappings
+pub mod Map
+pub mod Read
+pub mod Trace
+pub mod Write
+pub mod Rows
+pub mod private
+pub mod Laws

@@ -1,0 +1,9 @@
+ghost use Rattle.source_map.specs.Laws.{IsComposed, IsReadBack, IsFit, IsComposedFit};
+
+/// One map after another traces as one after another, and what is written is read back.
+pub fn reading()
+    ensures composed { IsComposed }
+    ensures read_back { IsReadBack }
+    ensures fit { IsFit }
+    ensures composed_fit { IsComposedFit }
+{}

@@ -1,0 +1,26 @@
+//! Source maps (ECMA-426, version 3): read, written, traced and composed.
+#![tactic(auto)]
+
+mod composed;
+mod digit;
+mod fault;
+mod laws;
+mod line;
+mod map;
+mod number;
+mod place;
+mod reader;
+mod rows;
+mod search;
+mod segment;
+mod sort;
+mod state;
+mod steps;
+mod written;
+
+pub use fault::MapFault;
+pub use laws::reading;
+pub use map::{SourceMap, compose, read, write};
+pub use place::{Origin, Parts, Segment, Traced};
+pub use rows::worked_maps;
+pub use steps::Steps;
