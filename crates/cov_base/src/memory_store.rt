@@ -54,6 +54,8 @@ impl Store for MemoryStore {
 
     ghost put_faults = { put_faults_of };
 
+    ghost fails = { λ before _ _. Contains (fails_of before) (raised (calls_of before)) };
+
     /// A copy of what is held at the path, `None` where nothing is, or want of memory; `Device`
     /// where the call's number is one of those that fail.
     fn read(&mut self, path: &str) -> Result<Option<Vec<u8>>, Failed>

@@ -1,4 +1,4 @@
-ghost use Rattle.std.specs.Prelude.{◌≡◌, ℕ, Option};
+ghost use Rattle.std.specs.Prelude.{◌≡◌, ℕ, List, Option};
 ghost use Rattle.cov_base.specs.Causes.{HasCause};
 ghost use Rattle.cov_base.specs.Store.{Held, ReadsHeld, PutsAt};
 
@@ -16,12 +16,16 @@ pub trait Store {
     /// How many puts answered `Device`; it stands still at 2^64 - 1.
     ghost put_faults: { Self → ℕ };
 
+    /// That a read of this path may answer `Device` and turn the first into the second.
+    ghost fails: { Self → List ℕ → Self → Type 0 } = { λ _ _ _. Unit {0} };
+
     /// What is held at the path, `None` where nothing is. Nothing held changes.
     fn read(&mut self, path: &str) -> Result<Option<Vec<u8>>, Failed>
         ensures value { ReadsHeld (held self.old) path.now result }
         ensures unchanged { held self.new ≡ held self.old }
         ensures cause { HasCause (read_faults self.old) (read_faults self.new) result }
-        ensures puts { put_faults self.new ≡ put_faults self.old };
+        ensures puts { put_faults self.new ≡ put_faults self.old }
+        ensures failed { result ≡ Err Failed.Device → fails self.old path.now self.new };
 
     /// Sets the path, and no other, to the bytes. After a failure the path holds anything, and all
     /// others stay.

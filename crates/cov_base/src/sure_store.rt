@@ -36,6 +36,8 @@ impl Store for SureStore {
 
     ghost put_faults = { λ _. 0 };
 
+    ghost fails = { λ _ _ _. ⊥ };
+
     /// A copy of what is held at the path, `None` where nothing is, or want of memory.
     fn read(&mut self, path: &str) -> Result<Option<Vec<u8>>, Failed>
         ensures value { ReadsHeld (Some (held_of self.old)) path.now result }

@@ -1,14 +1,18 @@
-ghost use Rattle.std.specs.Prelude.{◌≡◌, ◌↔◌, [], ◌++◌, IsTrue, Some, codes};
+ghost use Rattle.std.specs.Prelude.{◌≡◌, ◌↔◌, List, [], ◌++◌, Result, Ok, IfOk, IsTrue, Some, codes};
 ghost use Rattle.std.specs.List.{list_any};
 ghost use Rattle.cov_object.specs.Read.{coverage_of};
 ghost use Rattle.cov_object.specs.declared.fault.CoverageFault.TheVariants as unread;
+ghost use Rattle.cov_object.specs.declared.file.FileCoverage.{FileCoverage};
+ghost use Rattle.cov_merge.specs.declared.fault.MergeFault.{MergeFault};
+ghost use Rattle.cov_merge.specs.Answer as Sum;
+ghost use Rattle.cov_merge.specs.Maps.{merged};
 ghost use Rattle.cov_inputs.specs.Inputs as spec;
 ghost use Rattle.cov_inputs.specs.declared.refusal.Refusal.TheVariants as why;
 ghost use Rattle.cov_inputs.specs.declared.refusal.What.TheVariants as what;
 ghost use Rattle.cov_inputs.specs.private.Answer.{Answers, IsRefusal};
 
 use crate::{InputFault, Refusal, What};
-use cov_merge::{MergeFault, each_path, merge};
+use cov_merge::{MergeFault, each_path, merge, merge_onto};
 use cov_object::{CoverageFault, CoverageMap, read_json};
 use items::Text;
 use std::alloc::Global;
@@ -101,11 +105,11 @@ fn source_map(alloc: Global, path: &str) -> InputFault
     }
 }
 
-/// Both maps, merged.
-fn merged(alloc: Global, a: &CoverageMap, b: &CoverageMap) -> Result<CoverageMap, InputFault>
-    ensures { Answers result (spec.merged_or_refused (a.now ++ b.now)) }
+/// Sums that aren't too large.
+fn or_too_large(sums: Result<CoverageMap, MergeFault>) -> Result<CoverageMap, InputFault>
+    ensures { (answer : Result (List FileCoverage) MergeFault) → Sum.Answers sums answer → Answers result (spec.or_too_large answer) }
 {
-    match merge(alloc, a, b) {
+    match sums {
         Ok(map) => Ok(map),
         Err(MergeFault::CountTooLarge { key: _, sum }) => {
             Err(InputFault::Refused(Refusal::CountTooLarge { sum }))
@@ -118,7 +122,19 @@ fn merged(alloc: Global, a: &CoverageMap, b: &CoverageMap) -> Result<CoverageMap
 fn summed(alloc: Global, map: CoverageMap) -> Result<CoverageMap, InputFault>
     ensures { Answers result (spec.merged_or_refused map) }
 {
-    merged(alloc, &map, &CoverageMap::new(alloc))
+    or_too_large(merge(alloc, &map, &CoverageMap::new(alloc)))
+}
+
+/// Sums, and a map more: only the paths of the map are touched.
+fn merged_onto(
+    alloc: Global,
+    sums: CoverageMap,
+    map: &CoverageMap,
+) -> Result<CoverageMap, InputFault>
+    requires { merged sums ≡ Ok sums }
+    ensures { Answers result (spec.merged_or_refused (sums ++ map.now)) }
+{
+    or_too_large(merge_onto(alloc, sums, map))
 }
 
 /// Whether a map has no files.
@@ -129,15 +145,17 @@ fn is_empty(map: &CoverageMap) -> bool
 }
 
 /// The sums with this map more. Those of a first map are its own: they are merged already.
-fn with_map(alloc: Global, sums: &CoverageMap, map: CoverageMap) -> Result<CoverageMap, InputFault>
-    ensures { Answers result (spec.with_files sums.now map) }
+fn with_map(alloc: Global, sums: CoverageMap, map: CoverageMap) -> Result<CoverageMap, InputFault>
+    requires { merged sums ≡ Ok sums }
+    ensures answers { Answers result (spec.with_files sums map) }
+    ensures merged { IfOk result (λ all. merged all ≡ Ok all) }
 {
     each_path();
     let own = summed(alloc, map)?;
-    if is_empty(sums) {
+    if is_empty(&sums) {
         Ok(own)
     } else {
-        merged(alloc, sums, &own)
+        merged_onto(alloc, sums, &own)
     }
 }
 
@@ -152,11 +170,13 @@ fn read_at(alloc: Global, path: &str, bytes: &[u8]) -> Result<CoverageMap, Input
 /// The sums with the file at a path more, which has these bytes.
 pub(crate) fn with_bytes(
     alloc: Global,
-    sums: &CoverageMap,
+    sums: CoverageMap,
     path: &str,
     bytes: &[u8],
 ) -> Result<CoverageMap, InputFault>
-    ensures { Answers result (spec.with_input sums.now (record { path = path.now; found = Some bytes.now })) }
+    requires { merged sums ≡ Ok sums }
+    ensures answers { Answers result (spec.with_input sums (record { path = path.now; found = Some bytes.now })) }
+    ensures merged { IfOk result (λ all. merged all ≡ Ok all) }
 {
     let map = read_at(alloc, path, bytes)?;
     with_map(alloc, sums, map)

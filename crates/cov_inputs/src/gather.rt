@@ -1,5 +1,6 @@
-ghost use Rattle.std.specs.Prelude.{◌≡◌, ◌≤◌, ℕ, List, [], Some, None, Err, IfOk, IfErr, IfSome};
+ghost use Rattle.std.specs.Prelude.{◌≡◌, ◌≤◌, ℕ, List, [], Some, None, Ok, Err, IfOk, IfErr, IfSome};
 ghost use Rattle.cov_base.specs.Causes.{Rose};
+ghost use Rattle.cov_merge.specs.Maps.{merged};
 ghost use Rattle.cov_inputs.specs.Inputs.{HaveSums, IsCause};
 ghost use Rattle.cov_inputs.specs.declared.fault.InputFault.TheVariants.{ReadFailed};
 ghost use Rattle.cov_inputs.specs.private.Answer.{AnswersAt, IsReadFailure};
@@ -25,10 +26,13 @@ fn read_failed(alloc: Global, path: &str) -> InputFault
 fn with_file<S: Store>(
     alloc: Global,
     store: &mut S,
-    sums: &CoverageMap,
+    sums: CoverageMap,
     path: &str,
 ) -> Result<CoverageMap, InputFault>
-    ensures answers { AnswersAt (S.held store.old) sums.now path.now result }
+    requires { merged sums ≡ Ok sums }
+    ensures answers { AnswersAt (S.held store.old) sums path.now result }
+    ensures merged { IfOk result (λ all. merged all ≡ Ok all) }
+    ensures failed { (at : List ℕ) → result ≡ Err (ReadFailed at) → S.fails store.old at store.new }
     ensures rose { (at : List ℕ) → result ≡ Err (ReadFailed at) → Rose (S.read_faults store.old) (S.read_faults store.new) }
     ensures later { S.read_faults store.old ≤ S.read_faults store.new }
     ensures unchanged { S.held store.new ≡ S.held store.old }
@@ -56,13 +60,14 @@ pub fn gathered<S: Store>(
 ) -> Result<CoverageMap, InputFault>
     ensures sums { IfOk result (λ sums. HaveSums (S.held store.old) files.now sums) }
     ensures fault { IfErr result (λ fault. IsCause (S.held store.old) files.now fault) }
+    ensures failed { (at : List ℕ) → result ≡ Err (ReadFailed at) → (before : S) × S.fails before at store.new }
     ensures rose { (at : List ℕ) → result ≡ Err (ReadFailed at) → Rose (S.read_faults store.old) (S.read_faults store.new) }
     ensures unchanged { S.held store.new ≡ S.held store.old }
     ensures puts { S.put_faults store.new ≡ S.put_faults store.old }
 {
     let mut sums = CoverageMap::new(alloc);
     for file in files {
-        match with_file(alloc, store, &sums, file.as_str()) {
+        match with_file(alloc, store, sums, file.as_str()) {
             Ok(next) => sums = next,
             Err(fault) => return Err(fault),
         }

@@ -28,26 +28,26 @@ use Rattle.cov_merge.specs.Laws.{with_path, IsMergedAt, AreByPath, AreMergedOnce
 use Rattle.cov_merge.specs.private.Orders.{list_tells}
 use Rattle.cov_merge.proofs.KindsLemmas.{Answer, good, made_file, parts, statements_again, functions_again, branches_again}
 
-abbrev Path : Type 0
+abbrev pub Path : Type 0
 Path = List ℕ
 
-abbrev Files : Type 0
+abbrev pub Files : Type 0
 Files = List FileCoverage
 
-abbrev Group : Type 0
+abbrev pub Group : Type 0
 Group = Path × Files
 
-abbrev order : Path → Path → Ordering
+abbrev pub order : Path → Path → Ordering
 order a b = slice_cmp nat_cmp a b
 
-abbrev Ascend : List Path → Type 0
+abbrev pub Ascend : List Path → Type 0
 Ascend paths = IsStrictlySortedBy (slice_cmp nat_cmp) paths
 
-abbrev paths_of : Files → List Path
+abbrev pub paths_of : Files → List Path
 paths_of files = map (λ file. file.path) files
 
 -- what stands at a path
-abbrev at : Path → List Group → Option Files
+abbrev pub at : Path → List Group → Option Files
 at path groups = lookup (is_at (slice_cmp nat_cmp path)) groups
 
 -- ---- the order of paths
@@ -55,13 +55,13 @@ at path groups = lookup (is_at (slice_cmp nat_cmp path)) groups
 clash : {G : Type 0} → true ≡ false → G
 clash e = cc
 
-same-path : (a b : Path) → is_eq (order a b) ≡ true → a ≡ b
+pub same-path : (a b : Path) → is_eq (order a b) ≡ true → a ≡ b
 same-path a b e = exact_bytes a b ((Equal-is (order a b)).0 e)
 
-itself : (a : Path) → is_eq (order a a) ≡ true
+pub itself : (a : Path) → is_eq (order a a) ≡ true
 itself a = (eq_by_cmp_equiv nat_list_cmp_total).refl a
 
-back : (a b : Path) (o : Ordering) → order a b ≡ o → order b a ≡ ordering_reverse o
+pub back : (a b : Path) (o : Ordering) → order a b ≡ o → order b a ≡ ordering_reverse o
 back a b o e = nat_list_cmp_total.antisymm b a ∙ ap ordering_reverse e
 
 text-is : (a b : Path) → is_eq (order a b) ≡ same_text a b
@@ -92,7 +92,7 @@ at-put-by Greater g gs p q files e rest =
     ∙ either (is_eq (order q g.0)) (is_eq (order q p)) (Some g.1) (Some files) (at q gs)
     (λ a b. sym (itself p) ∙ ap (λ k. is_eq (order p k)) (sym (same-path q p b) ∙ same-path q g.0 a) ∙ ap is_eq e)
 
-at-put : (gs : List Group) (p q : Path) (files : Files) → at q (insert_entry (slice_cmp nat_cmp) gs p files) ≡ cond (is_eq (order q p)) (Some files) (at q gs)
+pub at-put : (gs : List Group) (p q : Path) (files : Files) → at q (insert_entry (slice_cmp nat_cmp) gs p files) ≡ cond (is_eq (order q p)) (Some files) (at q gs)
 at-put [] p q files = refl
 at-put (g ∷ gs) p q files = at-put-by (order p g.0) g gs p q files refl (at-put gs p q files)
 
@@ -149,7 +149,7 @@ all-put : (k : Path) (gs : List Group) (p : Path) (files : Files) → AllByRecur
 all-put k [] p files all own = (own, tt)
 all-put k (g ∷ gs) p files all own = all-put-by (order p g.0) k g gs p files all own (all-put k gs p files all.1 own)
 
-all-above : (a b : Path) (ys : List Path) → order a b ≡ Less → AllByRecursion (λ y. order b y ≡ Less) ys → AllByRecursion (λ y. order a y ≡ Less) ys
+pub all-above : (a b : Path) (ys : List Path) → order a b ≡ Less → AllByRecursion (λ y. order b y ≡ Less) ys → AllByRecursion (λ y. order a y ≡ Less) ys
 all-above a b [] less all = tt
 all-above a b (y ∷ ys) less all = (nat_list_cmp_total.trans a b y less all.0, all-above a b ys less all.1)
 
@@ -160,16 +160,16 @@ ascend-put-by Less g gs p files e up rest = ((e, all-above p g.0 (keys_of gs) e 
 ascend-put-by Equal g gs p files e up rest = up
 ascend-put-by Greater g gs p files e up rest = (all-put g.0 gs p files up.0 (back p g.0 Greater e), rest)
 
-ascend-put : (gs : List Group) (p : Path) (files : Files) → Ascend (keys_of gs) → Ascend (keys_of (insert_entry (slice_cmp nat_cmp) gs p files))
+pub ascend-put : (gs : List Group) (p : Path) (files : Files) → Ascend (keys_of gs) → Ascend (keys_of (insert_entry (slice_cmp nat_cmp) gs p files))
 unfolding IsStrictlySortedBy
 ascend-put [] p files up = (tt, tt)
 ascend-put (g ∷ gs) p files up = ascend-put-by (order p g.0) g gs p files refl up (ascend-put gs p files up.1)
 
-ascend-all : (gs : List Group) (files : Files) → Ascend (keys_of gs) → Ascend (keys_of (fold with_file gs files))
+pub ascend-all : (gs : List Group) (files : Files) → Ascend (keys_of gs) → Ascend (keys_of (fold with_file gs files))
 ascend-all gs [] up = up
 ascend-all gs (file ∷ files) up = ascend-all (with_file gs file) files (ascend-put gs file.path (files_at file.path gs ++ file ∷ []) up)
 
-none-ascend : Ascend []
+pub none-ascend : Ascend []
 unfolding IsStrictlySortedBy
 none-ascend = tt
 
@@ -180,18 +180,18 @@ among P [] y ys all = all.0
 among P (x ∷ xs) y ys all = among P xs y ys all.1
 
 -- paths before another are below it
-all-before : (xs : List Path) (y : Path) (ys : List Path) → Ascend (xs ++ y ∷ ys) → AllByRecursion (λ x. order x y ≡ Less) xs
+pub all-before : (xs : List Path) (y : Path) (ys : List Path) → Ascend (xs ++ y ∷ ys) → AllByRecursion (λ x. order x y ≡ Less) xs
 unfolding IsStrictlySortedBy
 all-before [] y ys up = tt
 all-before (x ∷ xs) y ys up = (among (λ k. order x k ≡ Less) xs y ys up.0, all-before xs y ys up.1)
 
-placed-last : (files : Files) (file : FileCoverage) → AllByRecursion (λ x. order x file.path ≡ Less) (paths_of files) → placed file files ≡ files ++ file ∷ []
+pub placed-last : (files : Files) (file : FileCoverage) → AllByRecursion (λ x. order x file.path ≡ Less) (paths_of files) → placed file files ≡ files ++ file ∷ []
 placed-last [] file all = refl
 placed-last (other ∷ files) file all =
     ap (λ o. match_ordering o (file ∷ other ∷ files) (file ∷ files) (other ∷ placed file files)) (back other.path file.path Less all.0)
     ∙ ap (λ rest. other ∷ rest) (placed-last files file all.1)
 
-paths-more : (files : Files) (file : FileCoverage) (p : Path) (ps : List Path) → file.path ≡ p → paths_of files ++ p ∷ ps ≡ paths_of (files ++ file ∷ []) ++ ps
+pub paths-more : (files : Files) (file : FileCoverage) (p : Path) (ps : List Path) → file.path ≡ p → paths_of files ++ p ∷ ps ≡ paths_of (files ++ file ∷ []) ++ ps
 paths-more [] file p ps own = ap (λ k. k ∷ ps) (sym own)
 paths-more (other ∷ files) file p ps own = ap (λ rest. other.path ∷ rest) (paths-more files file p ps own)
 
@@ -206,18 +206,18 @@ fine files = Ok files
 same-fine : (a b : Files) → fine a ≡ fine b → a ≡ b
 same-fine a b e = cc
 
-abbrev AreMerged : List Group → Files → Type 0
+abbrev pub AreMerged : List Group → Files → Type 0
 AreMerged [] [] = Unit {0}
 AreMerged [] (file ∷ files) = ⊥
 AreMerged (g ∷ gs) [] = ⊥
 AreMerged (g ∷ gs) (file ∷ files) = (merged_file g.0 g.1 ≡ Ok file) × AreMerged gs files
 
-record Whole (so_far : Files) (gs : List Group) (sums : Files) : Type 0 where
-  files : Files
-  is : sums ≡ so_far ++ files
-  each : AreMerged gs files
+pub record Whole (so_far : Files) (gs : List Group) (sums : Files) : Type 0 where
+  pub files : Files
+  pub is : sums ≡ so_far ++ files
+  pub each : AreMerged gs files
 
-path-of : (path : Path) (files : Files) (file : FileCoverage) → merged_file path files ≡ Ok file → file.path ≡ path
+pub path-of : (path : Path) (files : Files) (file : FileCoverage) → merged_file path files ≡ Ok file → file.path ≡ path
 path-of path files file ok = ap (λ (x : FileCoverage). x.path) (sym (parts path files file ok).is)
 
 whole-by : (so_far : Files) (g : Group) (gs : List Group) (sums : Files) (r : Answer FileCoverage) → merged_file g.0 g.1 ≡ r → Ascend (paths_of so_far ++ keys_of (g ∷ gs)) →
@@ -236,7 +236,7 @@ whole-by so_far g gs sums (Ok file) e up rest ok =
       each = (e, more.each);
     }
 
-whole : (so_far : Files) (gs : List Group) (sums : Files) → Ascend (paths_of so_far ++ keys_of gs) → merged_groups so_far gs ≡ Ok sums → Whole so_far gs sums
+pub whole : (so_far : Files) (gs : List Group) (sums : Files) → Ascend (paths_of so_far ++ keys_of gs) → merged_groups so_far gs ≡ Ok sums → Whole so_far gs sums
 whole so_far [] sums up ok = record { files = []; is = sym (same-fine so_far sums ok) ∙ sym (append-nil so_far); each = tt }
 whole so_far (g ∷ gs) sums up ok = whole-by so_far g gs sums (merged_file g.0 g.1) refl up (λ next ascend is. whole next gs sums ascend is) ok
 
@@ -321,7 +321,7 @@ all-alone (g ∷ gs) (file ∷ files) each = (
   all-alone gs files each.1,
 )
 
-keys-are : (gs : List Group) (files : Files) → AreMerged gs files → keys_of gs ≡ paths_of files
+pub keys-are : (gs : List Group) (files : Files) → AreMerged gs files → keys_of gs ≡ paths_of files
 keys-are [] [] each = refl
 keys-are [] (file ∷ files) each = absurd each
 keys-are (g ∷ gs) [] each = absurd each
@@ -329,7 +329,7 @@ keys-are (g ∷ gs) (file ∷ files) each =
     ap (λ k. k ∷ keys_of gs) (sym (path-of g.0 g.1 file each.0)) ∙ ap (λ rest. file.path ∷ rest) (keys-are gs files each.1)
 
 -- a group of one file
-abbrev single : FileCoverage → Group
+abbrev pub single : FileCoverage → Group
 single file = (file.path, file ∷ [])
 
 none-at : (path : Path) (gs : List Group) → AllByRecursion (λ x. order x path ≡ Less) (keys_of gs) → at path gs ≡ None
@@ -352,7 +352,7 @@ keys-more [] g ps = refl
 keys-more (first ∷ gs) g ps = ap (λ rest. first.0 ∷ rest) (keys-more gs g ps)
 
 -- files whose paths ascend are groups of one file each
-all-single : (gs : List Group) (files : Files) → Ascend (keys_of gs ++ paths_of files) → fold with_file gs files ≡ gs ++ map single files
+pub all-single : (gs : List Group) (files : Files) → Ascend (keys_of gs ++ paths_of files) → fold with_file gs files ≡ gs ++ map single files
 all-single gs [] up = sym (append-nil gs)
 all-single gs (file ∷ files) up =
     ap (λ some. fold with_file some files) (file-last gs file (all-before (keys_of gs) file.path (paths_of files) up))

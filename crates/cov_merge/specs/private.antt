@@ -1,4 +1,5 @@
 pub mod Groups
+pub mod Onto
 pub mod Order
 pub mod Orders
 pub mod Sums

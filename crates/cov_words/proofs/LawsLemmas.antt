@@ -9,7 +9,7 @@ use Rattle.clap.specs.declared.builder.value_parser.ValueParser.TheVariants as p
 use Rattle.clap.proofs.OnLiterals.{clap_on_literals}
 use Rattle.clap.proofs.ValueTestLemmas.{accepts-Accepts}
 use Rattle.cov_words.specs.Laws.{IsPlain, MapsFile, ExecFile, ExecTurns, NoTurns, OneFile, MergeFile, ReportFile, CheckFiles, OtherName}
-use Rattle.cov_words.specs.Words.{command_of, max_turns}
+use Rattle.cov_words.specs.Words.{command_of, is_help, max_turns}
 use Rattle.cov_words.proofs.WordsLemmas.{is_number}
 
 not_dash : (first : ℕ) (rest : List ℕ) → IsPlain (first ∷ rest) → (first == 45) ≡ false
@@ -24,6 +24,12 @@ no_dash (first ∷ rest) plain = rw (not_dash first rest plain) refl
 no_dashes : (word : List ℕ) → IsPlain word → bytes_eq word (codes "--") ≡ false
 no_dashes [] plain = refl
 no_dashes (first ∷ rest) plain = rw (not_dash first rest plain) refl
+
+-- nor `--help`
+no_help : (word : List ℕ) (words : List (List ℕ)) → IsPlain word → is_help (word ∷ words) ≡ false
+no_help [] [] plain = refl
+no_help (first ∷ rest) [] plain = rw (not_dash first rest plain) refl
+no_help word (other ∷ words) plain = refl
 
 pub maps_file : MapsFile
 unfolding clap_on_literals
@@ -87,4 +93,4 @@ check_files first second plain other =
 pub other_name : OtherName
 unfolding clap_on_literals
 other_name name words plain no_maps no_exec no_merge no_report no_check =
-    rw (no_maps, no_exec, no_merge, no_report, no_check, no_dashes name plain, no_dash name plain, no_dash name plain) refl
+    rw (no_help name words plain, no_maps, no_exec, no_merge, no_report, no_check, no_dashes name plain, no_dash name plain, no_dash name plain) refl

@@ -1,12 +1,13 @@
 -- The words of the command line, those after the program's name:
+--     --help
 --     maps FILE
 --     exec [--turns N] FILE
 --     merge --out P FILE..
 --     report [--reporter R] FILE..
 --     check [--lines N] [--statements N] [--branches N] [--functions N] FILE..
--- They are read as the kit's clap says: a form is clap's data, `fault_of` says of a form and words what is wrong with them,
+-- `--help` stands alone. All others are read as the kit's clap says: a form is clap's data, `fault_of` says of a form and words what is wrong with them,
 -- and `subcommand_of` the command that they name and what it finds for each of its arguments.
-use Rattle.std.specs.Prelude.{ℕ, true, List, [], ◌∷◌, Option, Some, None, option_map, option_and_then, if◌then◌else◌, nat_le, codes}
+use Rattle.std.specs.Prelude.{ℕ, Bool, true, false, List, [], ◌∷◌, Option, Some, None, option_map, option_and_then, if◌then◌else◌, nat_le, codes}
 use Rattle.std.specs.Str.{bytes_eq}
 use Rattle.std.specs.Str.Parse.{digits_value, without_leading_plus}
 use Rattle.clap.specs.Lexer.{usize_max}
@@ -17,7 +18,7 @@ use Rattle.clap.specs.ValueTests.{is_unsigned_in}
 use Rattle.clap.specs.declared.builder.value_parser.ValueParser.TheVariants as parser
 use Rattle.cov_summary.specs.declared.shortfall.Thresholds.{Thresholds}
 use Rattle.cov_words.specs.declared.command.Command.{Command}
-use Rattle.cov_words.specs.declared.command.Command.TheVariants.{OnSource, OnCoverage}
+use Rattle.cov_words.specs.declared.command.Command.TheVariants.{Help, OnSource, OnCoverage}
 use Rattle.cov_words.specs.declared.command.SourceTask.{SourceTask}
 use Rattle.cov_words.specs.declared.command.SourceTask.TheVariants.{Maps, Exec}
 use Rattle.cov_words.specs.declared.command.CoverageTask.{CoverageTask}
@@ -190,6 +191,11 @@ request_in (name, rows) =
 abbrev pub found_in : List Text → Option (Text × List Row)
 found_in words = if is_empty (fault_of cov_form words) then subcommand_of cov_form words else None
 
+-- the words are `--help` and no more
+abbrev pub is_help : List Text → Bool
+is_help (word ∷ []) = bytes_eq word (codes "--help")
+is_help words = false
+
 -- what the words ask; all else has no reading
 abbrev pub command_of : List Text → Option Command
-command_of words = option_and_then request_in (found_in words)
+command_of words = if is_help words then Some Help else option_and_then request_in (found_in words)

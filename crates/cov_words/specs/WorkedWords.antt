@@ -1,7 +1,7 @@
 -- Worked examples: what words ask.
 use Rattle.std.specs.Prelude.{◌≡◌, ℕ, List, [], ◌∷◌, map, Option, Some, None, codes}
 use Rattle.cov_words.specs.declared.command.Command.{Command}
-use Rattle.cov_words.specs.declared.command.Command.TheVariants.{OnSource, OnCoverage}
+use Rattle.cov_words.specs.declared.command.Command.TheVariants.{Help, OnSource, OnCoverage}
 use Rattle.cov_words.specs.declared.command.SourceTask.TheVariants as task
 use Rattle.cov_words.specs.declared.command.CoverageTask.TheVariants.{Merge, Report, Check}
 use Rattle.cov_words.specs.declared.command.Reporter.{Reporter}
@@ -17,6 +17,10 @@ maps file = Some (OnSource task.Maps file)
 
 abbrev pub exec : ℕ → List ℕ → Option Command
 exec turns file = Some (OnSource (task.Exec turns) file)
+
+-- `--help`, which stands alone
+abbrev pub HelpAlone : Type 0
+HelpAlone = Asks ((codes "--help" ∷ [], Some Help) ∷ [])
 
 -- `maps`, which needs one FILE; after `--` each word is one
 abbrev pub maps_rows : List (List (List ℕ) × Option Command)
@@ -102,9 +106,14 @@ unread =
     ([] ∷ []) ∷
     (codes "a.js" ∷ []) ∷
     (codes "map" ∷ codes "a.js" ∷ []) ∷
-    (codes "--help" ∷ []) ∷
+    (codes "--help" ∷ codes "maps" ∷ []) ∷
+    (codes "--help" ∷ codes "--help" ∷ []) ∷
+    (codes "--help" ∷ codes "maps" ∷ codes "a.js" ∷ []) ∷
+    (codes "--help=" ∷ []) ∷
+    (codes "--" ∷ codes "--help" ∷ []) ∷
     (codes "-h" ∷ []) ∷
     (codes "help" ∷ []) ∷
+    (codes "help" ∷ codes "maps" ∷ []) ∷
     (codes "--version" ∷ []) ∷
     (codes "--" ∷ codes "maps" ∷ codes "a.js" ∷ []) ∷
     (codes "maps" ∷ []) ∷

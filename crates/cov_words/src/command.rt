@@ -4,6 +4,8 @@ use items::{Items, Text};
 /// What the words of the command line ask for.
 #[derive(Debug, Drop)]
 pub enum Command {
+    /// The forms of the words are printed.
+    Help,
     /// What is to be done with the source file at this source path.
     OnSource {
         task: SourceTask,

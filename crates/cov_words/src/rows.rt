@@ -1,7 +1,8 @@
-ghost use Rattle.cov_words.specs.WorkedWords.{Maps, Exec, Merges, Reports, Checks, NoReading};
+ghost use Rattle.cov_words.specs.WorkedWords.{HelpAlone, Maps, Exec, Merges, Reports, Checks, NoReading};
 
 /// What words ask for by the definition, worked out: it computes.
 pub fn worked_words()
+    ensures help_alone { HelpAlone }
     ensures maps { Maps }
     ensures exec { Exec }
     ensures merges { Merges }

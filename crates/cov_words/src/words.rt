@@ -16,6 +16,27 @@ use std::alloc::{AllocError, Global};
 pub fn command_of(alloc: Global, words: &[String]) -> Result<Option<Command>, Memory>
     ensures { IfOk result (λ found. found ≡ spec.command_of (map string_bytes words.now)) }
 {
+    if is_help(words) {
+        Ok(Some(Command::Help))
+    } else {
+        asked_by(alloc, words)
+    }
+}
+
+/// Whether the words are `--help` alone.
+fn is_help(words: &[String]) -> bool
+    ensures { result ≡ spec.is_help (map string_bytes words.now) }
+{
+    match words {
+        [word] => word.as_str() == "--help",
+        _ => false,
+    }
+}
+
+/// The command that the words give by the forms, `None` where they have no reading.
+fn asked_by(alloc: Global, words: &[String]) -> Result<Option<Command>, Memory>
+    ensures { IfOk result (λ found. found ≡ option_and_then spec.request_in (spec.found_in (map string_bytes words.now))) }
+{
     match matches_of(alloc, words)? {
         Some(matches) => request_in(alloc, &matches),
         None => Ok(None),

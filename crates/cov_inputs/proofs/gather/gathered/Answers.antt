@@ -30,6 +30,7 @@ loop-file-preserved g c = record {
       (ap (λ p. take i files ++ p ∷ []) path ∙ sym (take_more files i item c.loop-file-test.true))
       (goes_on (g.S.Store.held c.args.store.now) (take i files) c.as_str.result.now c.loop-file.sums c.in-Ok.next c.loop-file.invariant.have
       (subst (λ held. AnswersAt held c.loop-file.sums c.as_str.result.now (Ok c.in-Ok.next)) c.loop-file.invariant.held c.in-Ok.ensures.answers));
+  again = c.in-Ok.ensures.merged;
   later = omega (arith, c.in-Ok.ensures.later, c.loop-file.invariant.later);
   held = c.in-Ok.ensures.unchanged ∙ c.loop-file.invariant.held;
   puts = c.in-Ok.ensures.puts ∙ c.loop-file.invariant.puts;

@@ -2,6 +2,10 @@ use Rattle.std.proofs.Common.{refl}
 use Rattle.clap.proofs.OnLiterals.{clap_on_literals}
 use Rattle.cov_words.proofs.rows.worked_words.Goals as goal
 
+pub returns-clause-help_alone : goal.returns-clause-help_alone
+unfolding clap_on_literals
+returns-clause-help_alone c = refl
+
 pub returns-clause-maps : goal.returns-clause-maps
 unfolding clap_on_literals
 returns-clause-maps c = refl
