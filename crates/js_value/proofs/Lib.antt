@@ -8,5 +8,6 @@ pub mod PointLemmas
 pub mod PowerLemmas
 pub mod RealmWorked
 mod RangesLemmas
+pub mod SeparatedLemmas
 pub mod StoreWorked
 pub mod Tenth

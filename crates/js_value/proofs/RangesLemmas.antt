@@ -2,7 +2,6 @@
 use Rattle.std.proofs.Common.{◌≡◌, ℕ, List, Bool, true, false, cond, ℤ, pos, Option, Some, None, option_and_then, refl, ap, subst}
 use Rattle.std.specs.declared.cmp.Ordering.{Ordering}
 use Rattle.std.specs.Ordering.{is_lt, is_gt, is_le, is_ge}
-use Rattle.std.specs.Str.Parse.{digits_value}
 use Rattle.js_tree.specs.declared.operators.BinaryOperator.{BinaryOperator}
 use Rattle.js_tree.specs.declared.operators.BinaryOperator.TheVariants.{Exponentiate, Multiply, Divide, Remainder, Add, Subtract, LeftShift, SignedRightShift, UnsignedRightShift, LessThan, GreaterThan, LessThanOrEqual, GreaterThanOrEqual, InstanceOf, In, Equal, NotEqual, StrictEqual, StrictNotEqual, BitwiseAnd, BitwiseXor, BitwiseOr}
 use Rattle.js_tree.specs.declared.operators.UnaryOperator.{UnaryOperator}
@@ -10,7 +9,7 @@ use Rattle.js_tree.specs.declared.operators.UnaryOperator.TheVariants as U
 use Rattle.js_value.specs.declared.value.Primitive.TheVariants as P
 use Rattle.js_value.specs.declared.value.Value.{Value}
 use Rattle.js_value.specs.declared.value.Value.TheVariants as V
-use Rattle.js_value.specs.Numbers.{in_range, ranged, is_numeral, text_number, trimmed_number, trimmed}
+use Rattle.js_value.specs.Numbers.{in_range, ranged, literal_value, prefix_base, text_number, trimmed_number, trimmed}
 use Rattle.js_value.specs.Conversions.{Gives, Numbered, Is, NoNumber, numbered, number_of_primitive, to_number}
 use Rattle.js_value.specs.Equality.{Decided, Decides, Undecided, loosely_equal}
 use Rattle.js_value.specs.Order.{Compared, Stands, NoOrder, compare_values}
@@ -29,12 +28,12 @@ from_option : (o : Option ℤ) (m : ℤ) → option_and_then ranged o ≡ Some m
 from_option None m h = absurd cc
 from_option (Some n) m h = from_ranged n m h
 
-literal_by : (t : Bool) (z n : ℤ) → cond t (ranged z) None ≡ Some n → in_range n ≡ true
-literal_by true z n h = from_ranged z n h
-literal_by false z n h = absurd cc
+from_count : (o : Option ℕ) (n : ℤ) → option_and_then (λ m. ranged (pos m)) o ≡ Some n → in_range n ≡ true
+from_count None n h = absurd cc
+from_count (Some m) n h = from_ranged (pos m) n h
 
 pub literals : LiteralsInRange
-literals bytes n h = literal_by (is_numeral bytes) (pos (digits_value 10 bytes)) n h
+literals cs n h = from_count (literal_value (prefix_base cs) cs) n h
 
 read : (o : Option ℤ) (n : ℤ) → numbered o ≡ Is n → o ≡ Some n
 read None n h = absurd cc

@@ -13,7 +13,7 @@ use Rattle.js_value.specs.declared.built_in.OnObjects.TheVariants as on_objects
 use Rattle.js_value.specs.declared.built_in.Constructor.TheVariants as make
 use Rattle.js_value.specs.declared.built_in.TheConstants.{FUNCTIONS}
 use Rattle.js_value.specs.State as state
-use Rattle.js_value.specs.State.{ObjectRecord, Heap}
+use Rattle.js_value.specs.State.{Heap}
 use Rattle.js_value.specs.Objects.{elements_of, own, new_object, new_array, freeze, assigned, set}
 use Rattle.js_value.specs.Realm.{empty_heap, object, text, undefined}
 use Rattle.js_value.specs.Host.{Native, Answers, Throws, Refuses, Writes, Calls, Requires, native_by, heap_by, done_by, native_of, built_in as function_of}

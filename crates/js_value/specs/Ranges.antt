@@ -6,7 +6,7 @@ use Rattle.js_tree.specs.declared.operators.UpdateOperator.{UpdateOperator}
 use Rattle.js_value.specs.declared.value.Primitive.TheVariants as P
 use Rattle.js_value.specs.declared.value.Value.{Value}
 use Rattle.js_value.specs.declared.value.Value.TheVariants as V
-use Rattle.js_value.specs.Numbers.{in_range, literal_value}
+use Rattle.js_value.specs.Numbers.{in_range, literal_number}
 use Rattle.js_value.specs.Conversions.{Gives, Is, to_number}
 use Rattle.js_value.specs.Operators.{binary}
 use Rattle.js_value.specs.UnaryOperators.{unary, stepped}
@@ -18,7 +18,7 @@ InRange _ = ⊤
 
 -- a literal's value is in range
 abbrev pub LiteralsInRange : Type 0
-LiteralsInRange = (bytes : List ℕ) (n : ℤ) → literal_value bytes ≡ Some n → IsTrue (in_range n)
+LiteralsInRange = (bytes : List ℕ) (n : ℤ) → literal_number bytes ≡ Some n → IsTrue (in_range n)
 
 -- so is what ToNumber gives of a value in range
 abbrev pub ConversionsInRange : Type 0

@@ -1,2 +1,3 @@
 -- What the contracts of private functions name: no reader has to believe it.
 pub mod Capped
+pub mod Separated
