@@ -1,5 +1,5 @@
 ghost use Rattle.std.specs.Prelude.{◌≡◌, IfOk};
-ghost use Rattle.js_value.specs.Numbers.{literal_value};
+ghost use Rattle.js_value.specs.Numbers.{literal_number};
 
 use items::{Memory, Text};
 use js_tree::Spelled;
@@ -16,13 +16,13 @@ pub struct Numeral {
 
 impl Model for Numeral {
     ghost use Rattle.std.specs.Prelude.{◌≡◌, List, ℕ};
-    ghost use Rattle.js_value.specs.Numbers.{literal_value};
+    ghost use Rattle.js_value.specs.Numbers.{literal_number};
 
     ghost Value = { List ℕ };
 
     ghost view = { λ numeral. numeral.spelling };
 
-    ghost invariant = { λ numeral. numeral.value ≡ literal_value numeral.spelling };
+    ghost invariant = { λ numeral. numeral.value ≡ literal_number numeral.spelling };
 }
 
 impl Numeral {
@@ -38,7 +38,7 @@ impl Numeral {
 
     /// Its value (ECMA-262, 12.9.3.3), where that is in range.
     pub fn value(&self) -> Option<i64>
-        ensures { result ≡ literal_value self.now }
+        ensures { result ≡ literal_number self.now }
     {
         self.value
     }

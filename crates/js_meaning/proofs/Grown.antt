@@ -12,7 +12,7 @@ use Rattle.js_tree.specs.Mark.{Mark}
 use Rattle.js_value.specs.declared.value.Value.{Value}
 use Rattle.js_value.specs.declared.value.Value.TheVariants as value
 use Rattle.js_value.specs.Operators.{Answer, Gives, Refuses, binary, to_boolean, has_answer}
-use Rattle.js_value.specs.Numbers.{literal_value}
+use Rattle.js_value.specs.Numbers.{literal_number}
 use Rattle.js_value.specs.State.{ObjectKind, Plain, Array, Error, RegExp, BuiltIn, Written, Heap, Store}
 use Rattle.js_value.specs.Objects.{kind_of, next_object}
 use Rattle.js_value.specs.Environments.{Cell, lookup, value_of, assign_answer, Assign, Done, Dead, Constant, next_environment}
@@ -148,7 +148,7 @@ module _ (p : Sources) where
     grows_expr (IdentifierReference loc name) env = grows_read name env
     grows_expr (NullLiteral loc) env = tt
     grows_expr (BooleanLiteral loc b) env = tt
-    grows_expr (NumericLiteral loc spelling) env = grows_number (literal_value spelling)
+    grows_expr (NumericLiteral loc spelling) env = grows_number (literal_number spelling)
     grows_expr (StringLiteral loc spelled) env = tt
     grows_expr (Parenthesized loc inner) env = grows_expr inner env
     grows_expr (P.Call loc callee arguments) env =

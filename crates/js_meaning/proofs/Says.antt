@@ -10,7 +10,7 @@ use Rattle.js_tree.specs.Plain.{Declarator, MakeDeclarator, Declarators, no_decl
 use Rattle.js_value.specs.declared.value.Value.{Value}
 use Rattle.js_value.specs.declared.value.Value.TheVariants as value
 use Rattle.js_value.specs.Operators.{Answer, Gives, Refuses, binary, to_boolean, has_answer}
-use Rattle.js_value.specs.Numbers.{literal_value}
+use Rattle.js_value.specs.Numbers.{literal_number}
 use Rattle.js_value.specs.State.{ObjectKind, Plain, Array, Error, RegExp, BuiltIn, Written, Heap}
 use Rattle.js_value.specs.Objects.{kind_of}
 use Rattle.js_value.specs.Environments.{Cell, lookup, value_of, assign_answer, Assign, Done, Dead, Constant}
@@ -113,7 +113,7 @@ module _ (p : Sources) where
     says_expr (IdentifierReference loc name) k env = λ s. says_value_in s.heap (lookup s.heap env name)
     says_expr (NullLiteral loc) k env = tt
     says_expr (BooleanLiteral loc b) k env = tt
-    says_expr (NumericLiteral loc spelling) k env = says_number (literal_value spelling)
+    says_expr (NumericLiteral loc spelling) k env = says_number (literal_number spelling)
     says_expr (StringLiteral loc spelled) k env = tt
     says_expr (Parenthesized loc inner) k env = says_expr inner k env
     says_expr (P.Call loc callee arguments) k env = says_then (M.comp_expr p callee env) _ (says_expr callee (left_true _ _ k) env)

@@ -19,7 +19,7 @@ use Rattle.js_tree.specs.Unmarked.{unmarked_expr, unmarked_exprs, unmarked_expr_
 use Rattle.js_value.specs.declared.value.Value.{Value}
 use Rattle.js_value.specs.declared.value.Value.TheVariants as value
 use Rattle.js_value.specs.Operators.{Answer, Gives, Refuses, binary, to_boolean, has_answer}
-use Rattle.js_value.specs.Numbers.{literal_value}
+use Rattle.js_value.specs.Numbers.{literal_number}
 use Rattle.js_value.specs.State.{ObjectKind, Plain, Array, Error, RegExp, BuiltIn, Written, Heap, Store}
 use Rattle.js_value.specs.Objects.{kind_of, next_object}
 use Rattle.js_value.specs.Environments.{Cell, lookup, value_of, assign_answer, Assign, Done, Dead, Constant, next_environment}
@@ -253,7 +253,7 @@ module _ (p : Sources) where
       thin_expr (IdentifierReference loc name) env = thin_read name env
       thin_expr (NullLiteral loc) env = rets _
       thin_expr (BooleanLiteral loc b) env = rets _
-      thin_expr (NumericLiteral loc spelling) env = thin_number (literal_value spelling)
+      thin_expr (NumericLiteral loc spelling) env = thin_number (literal_number spelling)
       thin_expr (StringLiteral loc spelled) env = rets _
       thin_expr (Parenthesized loc inner) env = thin_expr inner env
       thin_expr (P.Call loc callee arguments) env = then_thin p (thin_expr callee env) (λ f. thin_arguments arguments env f undefined [])

@@ -15,7 +15,7 @@ use Rattle.js_value.specs.declared.value.Value.{Value}
 use Rattle.js_value.specs.declared.value.Value.TheVariants as value
 use Rattle.js_value.specs.declared.value.Primitive.TheVariants as primitive
 use Rattle.js_value.specs.declared.value.Kind.TheVariants as kind
-use Rattle.js_value.specs.Numbers.{literal_value}
+use Rattle.js_value.specs.Numbers.{literal_number}
 use Rattle.js_value.specs.Operators.{Answer, Gives, Refuses, binary, to_boolean, has_answer}
 use Rattle.js_value.specs.State.{ObjectKind, Plain, Array, Error, RegExp, BuiltIn, Written, Heap, Store}
 use Rattle.js_value.specs.Objects.{kind_of, next_object, new_object, define}
@@ -214,7 +214,7 @@ abbrev mutual
   comp_expr p (This loc) env = unsaid
   comp_expr p (NullLiteral loc) env = ret (Normal (value.Primitive primitive.Null))
   comp_expr p (BooleanLiteral loc b) env = ret (Normal (value.Primitive (primitive.Boolean b)))
-  comp_expr p (NumericLiteral loc spelling) env = number (literal_value spelling)
+  comp_expr p (NumericLiteral loc spelling) env = number (literal_number spelling)
   comp_expr p (StringLiteral loc spelled) env = ret (Normal (text spelled.units))
   comp_expr p (ArrayLiteral loc es) env = unsaid
   comp_expr p (ObjectLiteral loc properties) env = unsaid
