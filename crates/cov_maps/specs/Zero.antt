@@ -6,7 +6,8 @@ use Rattle.js_tree.specs.declared.construct.BranchKind.{BranchKind}
 use Rattle.js_tree.specs.declared.construct.BranchKind.TheVariants as branch_kind
 use Rattle.js_tree.specs.declared.construct.Construct.{Construct}
 use Rattle.js_tree.specs.declared.construct.Construct.TheVariants as construct
-use Rattle.cov_object.specs.Location.{location_at, nowhere}
+use Rattle.cov_object.specs.Location.{nowhere}
+use Rattle.cov_maps.specs.Located.{location_at}
 use Rattle.cov_object.specs.declared.location.Location.{Location}
 use Rattle.cov_object.specs.declared.file.StatementCoverage.{StatementCoverage}
 use Rattle.cov_object.specs.declared.file.FunctionCoverage.{FunctionCoverage}

@@ -1,14 +1,14 @@
-ghost use Rattle.std.specs.Prelude.{◌≡◌, map, IfOk};
+ghost use Rattle.std.specs.Prelude.{◌≡◌, ◌<◌, map, IfOk};
+ghost use Rattle.cov_maps.specs.Located.{location_at, position_at};
 ghost use Rattle.cov_maps.specs.Placed.{IsPlaced, IsPlacedIf, ArePathsPlaced, ArePlaced};
 ghost use Rattle.cov_maps.specs.Zero as spec;
-ghost use Rattle.cov_object.specs.Location.{location_at};
 
 use cov_object::{
-    BranchCoverage, Count, FileCoverage, FunctionCoverage, Location, Numbered, PathCoverage,
-    StatementCoverage,
+    BranchCoverage, Count, FileCoverage, FunctionCoverage, Line, Location, Numbered, PathCoverage,
+    Position, StatementCoverage,
 };
 use items::{Items, Memory, Text};
-use js_tree::{BranchKind, Construct, Loc};
+use js_tree::{BranchKind, Construct, Loc, Pos};
 use std::alloc::Global;
 
 /// The coverage of a file in which nothing has run: each construct of a list with the count 0, the
@@ -115,11 +115,24 @@ fn spelling(kind: BranchKind) -> &'static str
     }
 }
 
+fn position_at(pos: Pos) -> Position
+    requires { 0 < pos.line }
+    ensures { result ≡ position_at pos }
+{
+    Position {
+        line: Line::new(pos.line),
+        column: Some(pos.column),
+    }
+}
+
 fn location_at(loc: Loc) -> Location
     requires { IsPlaced loc }
     ensures { result ≡ location_at loc }
 {
-    Location::from_loc(loc)
+    Location {
+        start: Some(position_at(loc.start)),
+        end: Some(position_at(loc.end)),
+    }
 }
 
 fn location_if(loc: Option<Loc>) -> Location

@@ -1,8 +1,7 @@
-ghost use Rattle.std.specs.Prelude.{◌≡◌, ◌<◌};
-ghost use Rattle.cov_object.specs.Location.{location_at, nowhere};
+ghost use Rattle.std.specs.Prelude.{◌≡◌};
+ghost use Rattle.cov_object.specs.Location.{nowhere};
 
 use crate::number::Line;
-use js_tree::Loc;
 
 /// A place in a source text.
 #[derive(Clone, Copy, Debug)]
@@ -24,24 +23,6 @@ pub struct Location {
 }
 
 impl Location {
-    /// The part of a text that a syntax tree tells, whose lines count from 1.
-    pub fn from_loc(loc: Loc) -> Location
-        requires start_line { 0 < loc.start.line }
-        requires end_line { 0 < loc.end.line }
-        ensures { result ≡ location_at loc }
-    {
-        Location {
-            start: Some(Position {
-                line: Line::new(loc.start.line),
-                column: Some(loc.start.column),
-            }),
-            end: Some(Position {
-                line: Line::new(loc.end.line),
-                column: Some(loc.end.column),
-            }),
-        }
-    }
-
     /// No part at all.
     pub fn nowhere() -> Location
         ensures { result ≡ nowhere }
