@@ -1,3 +1,4 @@
+pub mod Moved
 mod Sets
 mod Starts
 mod Taken

@@ -5,12 +5,12 @@ use Rattle.std.proofs.Math.Seq.{take-append_seam}
 use Rattle.cov_base.specs.Sink.{after_more, TakesPrefix}
 
 -- two pieces more are their join more
-after_more-append : (taken : Option (List ℕ)) (a b : List ℕ) → after_more (after_more taken a) b ≡ after_more taken (a ++ b)
+pub after_more-append : (taken : Option (List ℕ)) (a b : List ℕ) → after_more (after_more taken a) b ≡ after_more taken (a ++ b)
 after_more-append None a b = refl
 after_more-append (Some t) a b = ap Some (append_assoc t a b)
 
 -- nothing more changes nothing
-after_more-nil : (taken : Option (List ℕ)) → after_more taken [] ≡ taken
+pub after_more-nil : (taken : Option (List ℕ)) → after_more taken [] ≡ taken
 after_more-nil None = refl
 after_more-nil (Some t) = ap Some (append-nil t)
 

@@ -4,6 +4,7 @@ pub mod HostSink
 pub mod HostStore
 pub mod MemorySink
 pub mod MemoryStore
+pub mod Pieces
 pub mod private
 pub mod Sink
 pub mod Store

@@ -27,6 +27,13 @@ impl SureSink {
     {
         self.taken.as_slice()
     }
+
+    /// The bytes taken. It takes no memory.
+    pub fn into_taken(self) -> Vec<u8>
+        ensures { result.items ≡ taken_of self }
+    {
+        self.taken
+    }
 }
 
 impl Sink for SureSink {

@@ -13,7 +13,7 @@ use Rattle.cov_object.specs.declared.file.FileCoverage.{FileCoverage}
 use Rattle.cov_object.specs.declared.file.FunctionCoverage.{FunctionCoverage}
 use Rattle.cov_object.specs.declared.file.StatementCoverage.{StatementCoverage}
 use Rattle.cov_object.specs.Files.{AreInOrder}
-use Rattle.cov_object.specs.Json.{by_key, statements_data, statement_counts_data, functions_data, function_counts_data, branches_data, branch_counts_data, with_hash, with_source_map, file_data, json_text}
+use Rattle.cov_object.specs.Json.{by_key, statements_data, statement_counts_data, functions_data, function_counts_data, branches_data, branch_counts_data, with_hash, with_source_map, file_data, file_member, json_text, later_members}
 use Rattle.cov_object.specs.private.Piece.{key_text, member_text, hash_text, source_map_text}
 use Rattle.cov_object.specs.SourceMapText.{data_of}
 use Rattle.cov_object.proofs.PieceLemmas.{members_text-member}
@@ -228,3 +228,16 @@ all_written files o0 o1 ordered e0 e1 =
 pub now_more : (xs : List (Bor FileCoverage)) (x : Bor FileCoverage) → map (λ file. file.now) (xs ++ x ∷ []) ≡ map (λ file. file.now) xs ++ x.now ∷ []
 now_more [] x = refl
 now_more (y ∷ ys) x = ap (λ rest. y.now ∷ rest) (now_more ys x)
+
+-- the members after the first
+pub begun-later : (files : List FileCoverage) → begun true files ≡ later_members files
+begun-later [] = refl
+begun-later (file ∷ files) = ap (λ rest. member_text true file.path (file_data file) ++ rest) (begun-later files)
+
+-- the text of a map by its first member and the others
+pub by_members : (first : FileCoverage) (files : List FileCoverage) → AreInOrder (first ∷ files) →
+    (123 ∷ file_member false first) ++ (later_members files ++ 125 ∷ []) ≡ json_text (first ∷ files)
+by_members first files ordered =
+    ap (λ rest. (123 ∷ file_member false first) ++ (rest ++ 125 ∷ [])) (sym (begun-later files))
+    ∙ sym (append_assoc (123 ∷ file_member false first) (begun true files) (125 ∷ []))
+    ∙ all_written (first ∷ files) (123 ∷ begun false (first ∷ files)) (123 ∷ (begun false (first ∷ files) ++ 125 ∷ [])) ordered refl refl

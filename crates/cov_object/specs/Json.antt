@@ -1,9 +1,11 @@
 -- The JSON of a coverage map: an object from each file's path to its FileCoverage, as Istanbul names its members.
-use Rattle.std.specs.Prelude.{ℕ, List, [], ◌∷◌, map, fold, Option, Some, None, codes, decimal}
+use Rattle.std.specs.Prelude.{ℕ, Bool, true, List, [], ◌∷◌, map, fold, Option, Some, None, codes, decimal}
+use Rattle.std.specs.List.{flat_map}
 use Rattle.serde_json.specs.Data.{Data, null, number, unsigned, string, array, object, Members, no_members, put}
 use Rattle.serde_json.specs.Written.{compact_text}
 use Rattle.serde_json.specs.View.{items_of}
 use Rattle.cov_object.specs.SourceMapText.{data_of}
+use Rattle.cov_object.specs.private.Piece.{member_text}
 use Rattle.cov_object.specs.declared.location.Position.{Position}
 use Rattle.cov_object.specs.declared.location.Location.{Location}
 use Rattle.cov_object.specs.declared.file.StatementCoverage.{StatementCoverage}
@@ -117,3 +119,11 @@ files_data files = object_of (map (λ file. (file.path, file_data file)) files)
 -- its text, with no space
 abbrev pub json_text : List FileCoverage → List ℕ
 json_text files = compact_text (files_data files)
+
+-- a file's member in it, after others where there are some
+abbrev pub file_member : Bool → FileCoverage → List ℕ
+file_member later file = member_text later file.path (file_data file)
+
+-- the members of files after another
+abbrev pub later_members : List FileCoverage → List ℕ
+later_members files = flat_map (file_member true) files

@@ -38,4 +38,4 @@ pub use number::{Count, Line};
 pub use numbered::Numbered;
 pub use read::read_json;
 pub use source_map_text::SourceMapText;
-pub use write::write_json;
+pub use write::{push_member, write_json};

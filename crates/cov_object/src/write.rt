@@ -27,12 +27,25 @@ pub fn write_json(alloc: Global, map: &CoverageMap) -> Result<Vec<u8>, Memory>
     let mut later = false;
     for file in map.files() {
         look_at_file(file);
-        push_key(alloc, &mut out, later, file.path.as_str())?;
-        push_file(alloc, &mut out, file)?;
+        push_member(alloc, &mut out, later, file)?;
         later = true;
     }
     out.push(b'}')?;
     Ok(out)
+}
+
+/// Writes a file's member of the JSON of a map at the end of `out`, after others where there are
+/// some: the file's path and its coverage. After want of memory `out` has what fitted.
+pub fn push_member(
+    alloc: Global,
+    out: &mut Vec<u8>,
+    later: bool,
+    file: &FileCoverage,
+) -> Result<(), Memory>
+    ensures { OnOk result (out.new.items ≡ out.old.items ++ spec.file_member later file.now) }
+{
+    push_key(alloc, out, later, file.path.as_str())?;
+    push_file(alloc, out, file)
 }
 
 // Writes a file's coverage at the end of `out`. It is written member by member, since a tree of

@@ -1,3 +1,4 @@
+pub mod Fault
 pub mod JsonSummary
 pub mod Lcov
 pub mod Percent

@@ -1,24 +1,53 @@
 ghost use Rattle.std.specs.Prelude.{◌≡◌, ◌++◌, codes, IfOk, OnOk};
 ghost use Rattle.std.specs.List.{flat_map, enumerate_from};
+ghost use Rattle.cov_base.specs.Sink.{after_more, TakesPrefix};
+ghost use Rattle.cov_report.specs.Fault.{HasReportCause};
 ghost use Rattle.cov_report.specs.Piece.{line, printed};
 ghost use Rattle.cov_report.specs.Lcov as spec;
 
+use crate::fault::ReportFault;
 use crate::piece::{push_number, push_printed, push_text, start_line};
+use crate::put::{Report, files_of, put_report};
+use cov_base::{Sink, SureSink};
 use cov_object::{BranchCoverage, CoverageMap, FileCoverage, FunctionCoverage, PathCoverage};
 use cov_summary::{Totals, file_sums, lines};
 use items::Memory;
-use std::alloc::Global;
+use std::alloc::{AllocError, Global};
 
 /// A coverage map as an LCOV tracefile. A place that is missing is told as line 0. Want of memory
 /// is the only error.
 pub fn lcov(alloc: Global, map: &CoverageMap) -> Result<Vec<u8>, Memory>
     ensures { IfOk result (λ text. text.items ≡ spec.lcov_text map.now) }
 {
-    let mut out = Vec::new(alloc);
-    for file in map.files() {
-        push_file(alloc, &mut out, file)?;
+    let mut sink = SureSink::new(alloc)?;
+    match lcov_to(alloc, map, &mut sink) {
+        Ok(()) => Ok(sink.into_taken()),
+        Err(_) => Err(AllocError),
     }
-    Ok(out)
+}
+
+/// The same, written to a sink in pieces. After a fault the sink has taken a prefix.
+pub fn lcov_to<S: Sink>(alloc: Global, map: &CoverageMap, sink: &mut S) -> Result<(), ReportFault>
+    ensures all { OnOk result (S.taken sink.new ≡ after_more (S.taken sink.old) (spec.lcov_text map.now)) }
+    ensures prefix { TakesPrefix (S.taken sink.old) (S.taken sink.new) (spec.lcov_text map.now) }
+    ensures cause { HasReportCause (S.faults sink.old) (S.faults sink.new) result }
+{
+    let files = files_of(alloc, map)?;
+    put_report(alloc, sink, &Records, b"", files.as_slice(), b"")
+}
+
+// A record for each file.
+#[derive(Drop)]
+struct Records;
+
+impl Report for Records {
+    ghost use Rattle.cov_report.specs.Lcov as spec;
+
+    ghost text = { λ _ file. spec.file_text file };
+
+    fn push(&self, alloc: Global, out: &mut Vec<u8>, file: &FileCoverage) -> Result<(), Memory> {
+        push_file(alloc, out, file)
+    }
 }
 
 // Writes one file.

@@ -6,7 +6,7 @@ use Rattle.cov_inputs.specs.Inputs.{Input, AreRead}
 use Rattle.cov_words.specs.declared.command.CoverageTask.TheVariants.{Merge, Report, Check}
 use Rattle.cov_tool.specs.Source as source
 use Rattle.cov_words.specs.declared.command.Command.{Command}
-use Rattle.cov_words.specs.declared.command.Command.TheVariants.{OnSource, OnCoverage}
+use Rattle.cov_words.specs.declared.command.Command.TheVariants.{Help, OnSource, OnCoverage}
 use Rattle.cov_tool.specs.Line as said
 use Rattle.cov_tool.specs.Program.{IsDue, Comes, GivesWay, AreLines, PrintsPrefix, Stores, CountsPuts, Says, SaysLines, SaysAtMost}
 use Rattle.cov_tool.specs.private.Cause.{status_of}
@@ -30,6 +30,7 @@ pub record IsSaid (asked : Option Command) (told : Option Held) (message : said.
 -- want of memory may be said at any point
 pub memory_is_said : (asked : Option Command) (told : Option Held) → IsSaid asked told said.OutOfMemory
 memory_is_said None told = record { stands = gives_way None told (inr (inr refl)) (inr refl); are = refl }
+memory_is_said (Some Help) told = record { stands = gives_way (Some Help) told (inr (inr refl)) tt; are = refl }
 memory_is_said (Some (OnSource task file)) told = record {
   stands = gives_way (Some (OnSource task file)) told (inr (inr refl)) tt;
   are = (said.OutOfMemory, refl, refl);
@@ -71,6 +72,7 @@ after_nothing (Some xs) = ap Some (sym (append-nil xs))
 
 pub prints_nothing : (asked : Option Command) (told : Option Held) (before after : Option (List ℕ)) → after ≡ before → PrintsPrefix asked told before after
 prints_nothing None told before after same = same
+prints_nothing (Some Help) told before after same = (0, omega arith, same ∙ after_nothing before)
 prints_nothing (Some (OnSource task file)) told before after same = source.nothing same
 prints_nothing (Some (OnCoverage task files)) told before after same =
     let some = some_inputs files told in
@@ -86,6 +88,7 @@ not_done (inr e) ok = let both = sym e ∙ ok in cc
 
 pub stores_nothing : (asked : Option Command) (told : Option Held) {result : Status} → (result ≡ status.Memory) ⊎ (result ≡ status.Memory) → Stores asked result told told
 stores_nothing None told is = refl
+stores_nothing (Some Help) told is = refl
 stores_nothing (Some (OnSource task file)) told is = refl
 stores_nothing (Some (OnCoverage (Merge out) files)) told is = record {
   others = others_stay told out;
@@ -97,6 +100,7 @@ stores_nothing (Some (OnCoverage (Check thresholds) files)) told is = refl
 
 pub counts_no_puts : (asked : Option Command) (count : ℕ) → CountsPuts asked count count
 counts_no_puts None count = refl
+counts_no_puts (Some Help) count = refl
 counts_no_puts (Some (OnSource task file)) count = refl
 counts_no_puts (Some (OnCoverage (Merge out) files)) count = omega arith
 counts_no_puts (Some (OnCoverage (Report which) files)) count = refl

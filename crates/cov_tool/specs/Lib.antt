@@ -1,5 +1,6 @@
 pub mod Coverage
 pub mod Hash
+pub mod Help
 pub mod Line
 pub mod private
 pub mod Program

@@ -5,8 +5,9 @@ use Rattle.cov_base.specs.Store.{Held}
 use Rattle.cov_base.specs.Sink.{after_more, TakesPrefix}
 use Rattle.cov_base.specs.Causes.{Rose}
 use Rattle.cov_words.specs.declared.command.Command.{Command}
-use Rattle.cov_words.specs.declared.command.Command.TheVariants.{OnSource, OnCoverage}
+use Rattle.cov_words.specs.declared.command.Command.TheVariants.{Help, OnSource, OnCoverage}
 use Rattle.cov_words.specs.declared.command.CoverageTask.TheVariants.{Merge}
+use Rattle.cov_tool.specs.Help as help
 use Rattle.cov_tool.specs.Source as source
 use Rattle.cov_tool.specs.Coverage as coverage
 use Rattle.cov_tool.specs.Line as said
@@ -18,6 +19,7 @@ use Rattle.cov_tool.specs.declared.status.Status.TheVariants as status
 -- the status is due to what is asked; words with no reading ask for nothing, and are Usage, and memory may be wanting at any point
 abbrev pub IsDue : Option Command → Status → Option Held → Type 0
 IsDue None wanted told = (wanted ≡ status.Usage) ⊎ (wanted ≡ status.Memory)
+IsDue (Some Help) wanted told = help.IsDue wanted
 IsDue (Some (OnSource task file)) wanted told = source.IsDue wanted task file told
 IsDue (Some (OnCoverage task files)) wanted told = coverage.IsDue wanted task files told
 
@@ -38,12 +40,14 @@ IsUsage asked result = asked ≡ None → (result ≡ status.Usage) ⊎ (result 
 -- the output that is defined
 abbrev pub IsOutput : Option Command → Option Held → List ℕ → Type 0
 IsOutput None told output = output ≡ []
+IsOutput (Some Help) told output = output ≡ help.help_text
 IsOutput (Some (OnSource task file)) told output = source.IsOutput task file told output
 IsOutput (Some (OnCoverage task files)) told output = coverage.IsOutput task files told output
 
 -- nothing was printed, or a prefix of that of what the files hold; where the store doesn't tell, of what they could hold
 abbrev pub PrintsPrefix : Option Command → Option Held → Option (List ℕ) → Option (List ℕ) → Type 0
 PrintsPrefix None told before after = after ≡ before
+PrintsPrefix (Some Help) told before after = help.PrintsPrefix before after
 PrintsPrefix (Some (OnSource task file)) told before after = source.PrintsPrefix task file told before after
 PrintsPrefix (Some (OnCoverage task files)) told before after = coverage.PrintsPrefix task files told before after
 
@@ -59,6 +63,7 @@ PrintsAll other = ⊥
 -- that of an answer which comes to the status was printed whole
 abbrev pub PrintsOutput : Option Command → Status → Option Held → Option (List ℕ) → Option (List ℕ) → Type 0
 PrintsOutput None result told before after = ⊥
+PrintsOutput (Some Help) result told before after = help.PrintsOutput before after
 PrintsOutput (Some (OnSource task file)) result told before after = source.PrintsOutput result task file told before after
 PrintsOutput (Some (OnCoverage task files)) result told before after = coverage.PrintsOutput result task files told before after
 
@@ -91,6 +96,7 @@ abbrev pub AreLines : Option Command → Status → Option Held → List ℕ →
 AreLines None status.Usage told lines = lines ≡ said.line said.Usage
 AreLines None status.Memory told lines = lines ≡ said.line said.OutOfMemory
 AreLines None other told lines = ⊥
+AreLines (Some Help) result told lines = help.AreLines result lines
 AreLines (Some (OnSource task file)) result told lines = source.IsLine result task file told lines
 AreLines (Some (OnCoverage task files)) result told lines = coverage.AreLines result task files told lines
 
@@ -106,6 +112,12 @@ pub record SaysLines (asked : Option Command) (result : Status) (told : Option H
   pub lines : List ℕ
   pub are : AreLines asked result told lines
   pub says : Says lines before after faults_before faults_after
+
+-- the line was said of a path whose read failed
+pub record SaysFailedRead (Failed : List ℕ → Type 0) (before after : Option (List ℕ)) (faults_before faults_after : ℕ) : Type 0 where
+  pub path : List ℕ
+  pub failed : Failed path
+  pub says : Says (said.line (said.ReadFailed path)) before after faults_before faults_after
 
 -- for want of memory no more than a prefix of its line was said, or of the lines that were due
 pub record SaysAtMost (asked : Option Command) (told : Option Held) (before after : Option (List ℕ)) : Type 0 where

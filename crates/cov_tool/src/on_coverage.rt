@@ -3,7 +3,7 @@ ghost use Rattle.cov_base.specs.Causes.{Rose};
 ghost use Rattle.cov_base.specs.Sink.{TakesPrefix};
 ghost use Rattle.cov_words.specs.declared.command.Command.TheVariants.{OnCoverage};
 ghost use Rattle.cov_tool.specs.Line.{message_of};
-ghost use Rattle.cov_tool.specs.Program.{IsDue, Comes, IsOutput, PrintsAll, PrintsOutput, PrintsPrefix, PrintsNothing, Stores, CountsPuts, SaysLines, SaysAtMost};
+ghost use Rattle.cov_tool.specs.Program.{IsDue, Comes, IsOutput, PrintsAll, PrintsOutput, PrintsPrefix, PrintsNothing, Stores, CountsPuts, SaysFailedRead, SaysLines, SaysAtMost};
 ghost use Rattle.cov_tool.specs.Coverage.{message_of_refusal};
 ghost use Rattle.cov_tool.specs.private.Performed.{message_of_fault};
 
@@ -61,6 +61,8 @@ pub(crate) fn on_coverage<S: Store, O: Sink, E: Sink>(
     ensures due { IsDue (Some (OnCoverage task.now files.now)) result (S.held store.old) }
     ensures comes { Comes (Some (OnCoverage task.now files.now)) result (S.held store.old) }
     ensures read_fault { result ≡ Status.ReadFault → Rose (S.read_faults store.old) (S.read_faults store.new) }
+    ensures failed_read { result ≡ Status.ReadFault → SaysFailedRead (λ path. (before : S) × S.fails before path store.new)
+        (E.taken err.old) (E.taken err.new) (E.faults err.old) (E.faults err.new) }
     ensures write_fault { result ≡ Status.WriteFault → (Rose (O.faults out.old) (O.faults out.new)) ⊎ (Rose (S.put_faults store.old) (S.put_faults store.new)) }
 
     ensures printed { PrintsAll result

@@ -2,7 +2,7 @@ ghost use Rattle.std.specs.Prelude.{◌≡◌, ◌≢◌, ℕ, List, Some, IsSom
 ghost use Rattle.cov_base.specs.Causes.{Rose};
 ghost use Rattle.cov_base.specs.Sink.{TakesPrefix};
 ghost use Rattle.cov_words.specs.declared.command.Command.TheVariants.{OnSource};
-ghost use Rattle.cov_tool.specs.Program.{IsDue, Comes, IsOutput, PrintsAll, PrintsOutput, PrintsPrefix, PrintsNothing, SaysLines, SaysAtMost};
+ghost use Rattle.cov_tool.specs.Program.{IsDue, Comes, IsOutput, PrintsAll, PrintsOutput, PrintsPrefix, PrintsNothing, SaysFailedRead, SaysLines, SaysAtMost};
 
 use crate::complain::complain;
 use crate::said::said_of;
@@ -24,6 +24,8 @@ pub(crate) fn on_source<S: Store, O: Sink, E: Sink>(
     ensures due { IsDue (Some (OnSource task path.now)) result (S.held store.old) }
     ensures comes { Comes (Some (OnSource task path.now)) result (S.held store.old) }
     ensures read_fault { result ≡ Status.ReadFault → Rose (S.read_faults store.old) (S.read_faults store.new) }
+    ensures failed_read { result ≡ Status.ReadFault → SaysFailedRead (λ path. (before : S) × S.fails before path store.new)
+        (E.taken err.old) (E.taken err.new) (E.faults err.old) (E.faults err.new) }
     ensures write_fault { result ≡ Status.WriteFault → Rose (O.faults out.old) (O.faults out.new) }
 
     ensures printed { PrintsAll result

@@ -1,30 +1,56 @@
-ghost use Rattle.std.specs.Prelude.{◌≡◌, ◌⊎◌, Err, IfOk};
+ghost use Rattle.std.specs.Prelude.{◌≡◌, ◌⊎◌, Err, IfOk, OnOk};
 ghost use Rattle.cov_base.specs.Causes.{HasCause, Rose};
-ghost use Rattle.cov_base.specs.Sink.{TakesPrefix};
+ghost use Rattle.cov_base.specs.Sink.{after_more, TakesPrefix};
 ghost use Rattle.cov_base.specs.Store.{PutsAt};
 ghost use Rattle.cov_base.specs.declared.failed.Failed.TheVariants.{Device};
 ghost use Rattle.cov_summary.specs.Sums.{summary_of};
 ghost use Rattle.cov_summary.specs.Shortfall.{shortfalls_of};
+ghost use Rattle.cov_report.specs.Fault.{HasReportCause};
 ghost use Rattle.cov_tool.specs.Coverage as spec;
 ghost use Rattle.cov_tool.specs.private.Performed.{ComesOut, CountsPuts, StoredBy};
 
-use cov_base::{Failed, Sink, Store, write_all};
+use cov_base::{Failed, Sink, Store};
 use cov_object::CoverageMap;
-use cov_report::{json, json_summary, lcov, text};
+use cov_report::{ReportFault, json, json_summary_to, json_to, lcov_to, text_to};
 use cov_summary::{Shortfall, Thresholds, shortfalls, summary};
 use cov_words::{CoverageTask, Reporter};
 use items::Memory;
 use std::alloc::Global;
 
-/// The report that a reporter writes of a map.
-fn report(alloc: Global, reporter: Reporter, map: &CoverageMap) -> Result<Vec<u8>, Memory>
-    ensures { IfOk result (λ report. report.items ≡ spec.report_text reporter map.now) }
+/// Writes the report that a reporter makes of a map.
+fn report_to<O: Sink>(
+    alloc: Global,
+    reporter: Reporter,
+    map: &CoverageMap,
+    out: &mut O,
+) -> Result<(), ReportFault>
+    ensures all { OnOk result (O.taken out.new ≡ after_more (O.taken out.old) (spec.report_text reporter map.now)) }
+    ensures prefix { TakesPrefix (O.taken out.old) (O.taken out.new) (spec.report_text reporter map.now) }
+    ensures cause { HasReportCause (O.faults out.old) (O.faults out.new) result }
 {
     match reporter {
-        Reporter::Text => text(alloc, map),
-        Reporter::Json => json(alloc, map),
-        Reporter::JsonSummary => json_summary(alloc, map),
-        Reporter::Lcov => lcov(alloc, map),
+        Reporter::Text => text_to(alloc, map, out),
+        Reporter::Json => json_to(alloc, map, out),
+        Reporter::JsonSummary => json_summary_to(alloc, map, out),
+        Reporter::Lcov => lcov_to(alloc, map, out),
+    }
+}
+
+/// Writes the report, or passes on why not.
+fn report<O: Sink>(
+    alloc: Global,
+    reporter: Reporter,
+    map: &CoverageMap,
+    out: &mut O,
+) -> Result<(), Failed>
+    ensures all { OnOk result (O.taken out.new ≡ after_more (O.taken out.old) (spec.report_text reporter map.now)) }
+    ensures prefix { TakesPrefix (O.taken out.old) (O.taken out.new) (spec.report_text reporter map.now) }
+    ensures cause { HasCause (O.faults out.old) (O.faults out.new) result }
+{
+    match report_to(alloc, reporter, map, out) {
+        Ok(()) => Ok(()),
+        Err(ReportFault::Sink(failed)) => Err(failed),
+        Err(ReportFault::Memory) => Err(Failed::Memory),
     }
 }
 
@@ -68,8 +94,7 @@ pub(crate) fn perform<S: Store, O: Sink>(
             Ok(Vec::new(alloc))
         }
         CoverageTask::Report { reporter } => {
-            let report = report(alloc, *reporter, sums)?;
-            write_all(out, report.as_slice())?;
+            report(alloc, *reporter, sums, out)?;
             Ok(Vec::new(alloc))
         }
         CoverageTask::Check { thresholds } => Ok(below(alloc, *thresholds, sums)?),

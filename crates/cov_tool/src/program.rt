@@ -2,11 +2,12 @@ ghost use Rattle.std.specs.Prelude.{◌≡◌, ◌≢◌, ◌⊎◌, ℕ, List, 
 ghost use Rattle.cov_base.specs.Causes.{Rose};
 ghost use Rattle.cov_base.specs.Sink.{TakesPrefix};
 ghost use Rattle.cov_words.specs.Words as asked;
-ghost use Rattle.cov_tool.specs.Program.{IsDue, Comes, IsUsage, IsOutput, PrintsAll, PrintsOutput, PrintsPrefix, PrintsNothing, Stores, CountsPuts, SaysLines, SaysAtMost};
+ghost use Rattle.cov_tool.specs.Program.{IsDue, Comes, IsUsage, IsOutput, PrintsAll, PrintsOutput, PrintsPrefix, PrintsNothing, Stores, CountsPuts, SaysFailedRead, SaysLines, SaysAtMost};
 
 use crate::complain::complain;
 use crate::line::Complaint;
 use crate::on_coverage::on_coverage;
+use crate::on_help::on_help;
 use crate::on_source::on_source;
 use crate::status::Status;
 use cov_base::{Sink, Store};
@@ -21,7 +22,8 @@ use std::alloc::Global;
 /// otherwise than done, that is said after it. Three are on coverage files, which are read and merged
 /// one after another: `merge --out P FILE..` puts their JSON and LF at P, `report [--reporter R]
 /// FILE..` prints a report, and `check [--lines N] [--statements N] [--branches N] [--functions N]
-/// FILE..` says which percentages are below their thresholds.
+/// FILE..` says which percentages are below their thresholds. `--help` alone prints these forms and
+/// those of the commands that are still to come.
 pub fn cov<S: Store, O: Sink, E: Sink>(
     alloc: Global,
     words: &[String],
@@ -35,6 +37,8 @@ pub fn cov<S: Store, O: Sink, E: Sink>(
     ensures comes { Comes (asked.command_of (map string_bytes words.now)) result (S.held store.old) }
     ensures usage { IsUsage (asked.command_of (map string_bytes words.now)) result }
     ensures read_fault { result ≡ Status.ReadFault → Rose (S.read_faults store.old) (S.read_faults store.new) }
+    ensures failed_read { result ≡ Status.ReadFault → SaysFailedRead (λ path. (before : S) × S.fails before path store.new)
+        (E.taken err.old) (E.taken err.new) (E.faults err.old) (E.faults err.new) }
     ensures write_fault { result ≡ Status.WriteFault → (Rose (O.faults out.old) (O.faults out.new)) ⊎ (Rose (S.put_faults store.old) (S.put_faults store.new)) }
 
     // What has been printed.
@@ -61,6 +65,7 @@ pub fn cov<S: Store, O: Sink, E: Sink>(
     };
     match &read {
         None => complain(alloc, &Complaint::Usage, err),
+        Some(Command::Help) => on_help(alloc, out, err),
         Some(Command::OnSource { task, file }) => {
             on_source(alloc, *task, file.as_str(), store, out, err)
         }

@@ -23,6 +23,7 @@ use std::alloc::Global;
 pub(crate) fn source<S: Store>(store: &mut S, path: &str) -> Result<Vec<u8>, Fault>
     ensures found { IfOk result (λ bytes. Holds (S.held store.old) path.now (Some bytes.items)) }
     ensures missing { IfErr result (λ why. IsReadingFault why (S.held store.old) path.now) }
+    ensures fails { result ≡ Err Fault.ReadFailed → S.fails store.old path.now store.new }
     ensures failed { result ≡ Err Fault.ReadFailed → Rose (S.read_faults store.old) (S.read_faults store.new) }
     ensures unchanged { S.held store.new ≡ S.held store.old }
     ensures puts { S.put_faults store.new ≡ S.put_faults store.old }

@@ -23,6 +23,7 @@ pub(crate) fn work<S: Store, O: Sink>(
     ensures prefix { PrintsAtMost (S.held store.old) task path.now (O.taken out.old) (O.taken out.new) }
     ensures nothing { IfErr result (λ why. IsBeforePrinting why → O.taken out.new ≡ O.taken out.old) }
     ensures cause { IfErr result (λ why. IsCause why task (S.held store.old) path.now) }
+    ensures fails { result ≡ Err Fault.ReadFailed → S.fails store.old path.now store.new }
     ensures read_failed { result ≡ Err Fault.ReadFailed → Rose (S.read_faults store.old) (S.read_faults store.new) }
     ensures write_failed { result ≡ Err Fault.WriteFailed → Rose (O.faults out.old) (O.faults out.new) }
     ensures unchanged { S.held store.new ≡ S.held store.old }

@@ -1,5 +1,7 @@
-use Rattle.std.proofs.Common.{◌≡◌, ◌≤◌, ◌++◌, ◌∷◌, false, map, length, sym, ap, ◌∙◌, subst}
+use Rattle.std.proofs.Common.{◌≡◌, ◌≤◌, ◌++◌, ◌∷◌, false, map, length, refl, sym, ap, ◌∙◌, subst, append_assoc}
 use Rattle.std.proofs.lemmas.Iterator.Consumers.{YieldsList-from_rest, YieldsList-end}
+use Rattle.serde_json.specs.Written.{compact_text}
+use Rattle.cov_object.specs.Json.{file_data}
 use Rattle.cov_object.specs.private.Piece.{key_text}
 use Rattle.cov_object.proofs.WriteLemmas.{begun, is_later, now_more, one_more, is_later-more, all_written}
 use Rattle.cov_object.specs.private.Formed.{AreFormed}
@@ -14,7 +16,7 @@ loop-file-preserved c =
     let file = c.in-Some.file.now in
     let more = now_more c.loop-file.yielded c.in-Some.file in
     record {
-      text = one_more files file c.loop-file.later _ _ _ so_far.text so_far.comma (c.in_ok-push_key.ensures ∙ ap (λ path. c.loop-file.out.items ++ key_text c.loop-file.later path) c.as_str.ensures) c.in_ok-push_file.ensures ∙ ap (λ all. 123 ∷ begun false all) (sym more);
+      text = one_more files file c.loop-file.later _ _ _ so_far.text so_far.comma refl (c.in_ok-push_member.ensures ∙ sym (append_assoc c.loop-file.out.items (key_text c.loop-file.later file.path) (compact_text (file_data file)))) ∙ ap (λ all. 123 ∷ begun false all) (sym more);
       comma = sym (ap (is_later false) more ∙ is_later-more false files file);
       formed = subst AreFormed (sym more) (AreFormed-more files file so_far.formed c.look_at_file.ensures);
     }

@@ -1,7 +1,10 @@
 -- Each clause from what the files come to and from the complaint.
-use Rattle.std.proofs.Common.{rules, ◌≢◌, [], Some, refl, sym, subst}
+use Rattle.std.proofs.Common.{rules, ◌≢◌, ◌∙◌, [], Some, Err, refl, sym, ap, subst}
 use Rattle.cov_words.specs.declared.command.Command.TheVariants.{OnCoverage}
 use Rattle.cov_tool.specs.Line as said
+use Rattle.cov_tool.specs.Program.{Says}
+use Rattle.cov_tool.specs.declared.status.Status.TheVariants.{Memory}
+use Rattle.cov_tool.proofs.FailedReads.{coverage_read}
 use Rattle.cov_tool.proofs.Stands.{IsSaid, complained, says_at_most}
 use Rattle.cov_tool.proofs.Judged.{fault_is_said, nothing_prints, write_is_said, prints_defined, below_is_said}
 use Rattle.cov_tool.proofs.on_coverage.on_coverage.Given.{Over}
@@ -14,6 +17,16 @@ fault_said g c =
 
 pub returns-in-Err-clause-comes : goal.returns-in-Err-clause-comes
 returns-in-Err-clause-comes g c = (complained _ _ (fault_said g c) c.complain.ensures.status).comes
+
+pub returns-in-Err-clause-failed_read : goal.returns-in-Err-clause-failed_read
+returns-in-Err-clause-failed_read g c = λ is.
+    let read = coverage_read c.in-Err.fault (said.message_of c.complaint_of.result) c.complain.result c.complaint_of.ensures c.complain.ensures.status is in
+    let other : c.complain.result ≢ Memory = λ e. let both = sym e ∙ is in cc in
+    record {
+      path = read.0;
+      failed = c.in-Err.ensures.failed read.0 (ap Err read.1);
+      says = subst (λ m. Says (said.line m) (g.E.Sink.taken c.args.err.now) (g.E.Sink.taken c.complain.new.err) (g.E.Sink.faults c.args.err.now) (g.E.Sink.faults c.complain.new.err)) read.2 (c.complain.ensures.says other);
+    }
 
 pub returns-in-Err-clause-prefix : goal.returns-in-Err-clause-prefix
 returns-in-Err-clause-prefix g c = nothing_prints c.args.task.now c.args.files.now (g.S.Store.held c.args.store.now) _ _ refl

@@ -1,7 +1,10 @@
 -- Each clause from what was found and from the complaint.
-use Rattle.std.proofs.Common.{Some}
+use Rattle.std.proofs.Common.{◌≢◌, ◌∙◌, Some, Err, sym, ap, subst}
 use Rattle.cov_words.specs.declared.command.Command.TheVariants.{OnSource}
-use Rattle.cov_tool.specs.Line.{message_of}
+use Rattle.cov_tool.specs.Line.{line, message_of}
+use Rattle.cov_tool.specs.Program.{Says}
+use Rattle.cov_tool.specs.declared.status.Status.TheVariants.{Memory}
+use Rattle.cov_tool.proofs.FailedReads.{source_read}
 use Rattle.cov_tool.proofs.Stands.{IsSaid, complained, says_lines, says_at_most}
 use Rattle.cov_tool.proofs.Due.{fault_is_said, end_is_said, is_done, prints_some, prints_prefix, done_prints, end_prints}
 use Rattle.cov_tool.proofs.on_source.on_source.Given.{Over}
@@ -17,6 +20,16 @@ returns-clause-due g c = (complained _ _ (fault_said g c) c.complain-in-Err.ensu
 
 pub returns-clause-comes : goal.returns-clause-comes
 returns-clause-comes g c = (complained _ _ (fault_said g c) c.complain-in-Err.ensures.status).comes
+
+pub returns-clause-failed_read : goal.returns-clause-failed_read
+returns-clause-failed_read g c = λ is.
+    let read = source_read c.args.path.now c.in-Err.fault (message_of c.at.result) c.complain-in-Err.result c.at.ensures c.complain-in-Err.ensures.status is in
+    let other : c.complain-in-Err.result ≢ Memory = λ e. let both = sym e ∙ is in cc in
+    record {
+      path = c.args.path.now;
+      failed = (c.args.store.now, c.in-Err.ensures.fails (ap Err read.0));
+      says = subst (λ m. Says (line m) (g.E.Sink.taken c.args.err.now) (g.E.Sink.taken c.complain-in-Err.new.err) (g.E.Sink.faults c.args.err.now) (g.E.Sink.faults c.complain-in-Err.new.err)) read.1 (c.complain-in-Err.ensures.says other);
+    }
 
 pub returns-clause-prefix : goal.returns-clause-prefix
 returns-clause-prefix g c = prints_some _ _ _ _ _ c.work.ensures.prefix
