@@ -1,7 +1,6 @@
 -- What one step answers, and what that makes of the files so far.
-use Rattle.std.proofs.Common.{◌≡◌, ◌≢◌, ℕ, List, [], ◌∷◌, ◌++◌, map, Bool, ◌||◌, true, false, Option, Some, None, Bor, refl, sym, ap, ◌∙◌, subst}
+use Rattle.std.proofs.Common.{◌≡◌, ◌≢◌, ℕ, List, [], ◌∷◌, ◌++◌, map, Option, Some, None, refl, sym, ap, ◌∙◌, subst}
 use Rattle.std.specs.Prelude.{Result, Ok, Err, IfSome}
-use Rattle.std.specs.List.{list_any}
 use Rattle.std.proofs.lemmas.List.{map-append}
 use Rattle.std.specs.Prelude.{Vec, option_map}
 use Rattle.std.specs.declared.alloc.Global.{Global}
@@ -9,31 +8,15 @@ use Rattle.cov_base.specs.Store.{Held, ReadsHeld}
 use Rattle.cov_object.specs.declared.file.FileCoverage.{FileCoverage}
 use Rattle.cov_object.specs.declared.fault.CoverageFault.{CoverageFault}
 use Rattle.cov_object.specs.declared.fault.CoverageFault.TheVariants as unread
-use Rattle.cov_merge.specs.declared.fault.MergeFault.{MergeFault}
-use Rattle.cov_merge.specs.Maps.{merged}
-use Rattle.cov_merge.specs.Laws.{AreMergedOnce}
-use Rattle.cov_inputs.specs.Inputs.{Input, Sums, AreRead, HaveSums, IsCause, gathered, merged_or_refused, or_refused, or_too_large, read_from, refusal_of, then_by, with_files, with_input}
+use Rattle.source_map.specs.declared.fault.MapFault.{MapFault}
+use Rattle.cov_remap.specs.declared.fault.RemapFault.{RemapFault}
+use Rattle.cov_remap.specs.declared.fault.RemapFault.TheVariants as remap
+use Rattle.cov_remap.specs.Remapped.{remapped}
+use Rattle.cov_remap.specs.Laws.{run, mapped, AreMerged}
+use Rattle.cov_inputs.specs.Inputs.{Input, Sums, AreRead, HaveSums, IsCause, gathered, map_refusal, merged_or_refused, or_refused, or_too_large, or_unmapped, read_from, refusal_of, remapped_at, then_by, with_files, with_input}
 use Rattle.cov_inputs.specs.declared.fault.InputFault.{InputFault}
 use Rattle.cov_inputs.specs.declared.fault.InputFault.TheVariants.{Refused, ReadFailed, Memory}
 use Rattle.cov_inputs.specs.private.Answer.{Answers, AnswersAt, Holds, IsRefusal}
-
--- ---- lists
-
--- one thing more is in a list if it was or the thing is
-pub any_more : {X : Type 0} (test : X → Bool) (xs : List X) (x : X) → list_any test (xs ++ x ∷ []) ≡ (test x || list_any test xs)
-any_more test [] x = refl
-any_more test (first ∷ rest) x = by_first (test first) (any_more test rest x)
-  where
-    by_first : (b : Bool) → list_any test (rest ++ x ∷ []) ≡ (test x || list_any test rest) → (b || list_any test (rest ++ x ∷ [])) ≡ (test x || (b || list_any test rest))
-    by_first true e = by_last (test x)
-      where
-        by_last : (b : Bool) → true ≡ (b || true)
-        by_last true = refl
-        by_last false = refl
-    by_first false e = e
-
-pub now_more : {X : Type 0} (seen : List (Bor X)) (one : Bor X) → map (λ (b : Bor X). b.now) (seen ++ one ∷ []) ≡ map (λ (b : Bor X). b.now) seen ++ one.now ∷ []
-now_more {X = X} seen one = map-append (λ (b : Bor X). b.now) seen (one ∷ [])
 
 -- ---- one file
 
@@ -66,17 +49,24 @@ answers_at held sums path found holds (Err (Refused why)) is = (found, holds, is
 answers_at held sums path found holds (Err (ReadFailed at)) is = absurd is
 answers_at held sums path found holds (Err Memory) is = tt
 
--- sums that aren't too large are those of the definition
-as_merged : (answer : Result (List FileCoverage) MergeFault) (own : List FileCoverage) → or_too_large answer ≡ Ok own → answer ≡ Ok own
-as_merged (Ok files) own e = let same : files ≡ own = cc in ap Ok same
-as_merged (Err why) own e = cc
+-- what is remapped is that of the definition
+pub as_mapped : (path : List ℕ) (answer : Result (List FileCoverage) RemapFault) (own : List FileCoverage) → or_unmapped path answer ≡ Ok own → answer ≡ Ok own
+as_mapped path (Ok files) own e = let same : files ≡ own = cc in ap Ok same
+as_mapped path (Err why) own e = cc
 
 -- the sums of a first file are its own
-pub first_sums : AreMergedOnce → (sums files own : List FileCoverage) → sums ≡ [] → merged_or_refused files ≡ Ok own → with_files sums files ≡ Ok own
-first_sums once sums files own none is =
+pub first_sums : AreMerged → (path : List ℕ) (sums files own : List FileCoverage) → sums ≡ [] → remapped_at path files ≡ Ok own → with_files path sums files ≡ Ok own
+first_sums once path sums files own none is =
     ap (then_by (λ some. merged_or_refused (sums ++ some))) is
     ∙ ap (λ before. merged_or_refused (before ++ own)) none
-    ∙ ap or_too_large (once files own (as_merged (merged files) own is))
+    ∙ ap or_too_large (once (mapped (run files)) own tt (as_mapped path (remapped files) own is))
+
+-- a refusal of a map is that of the definition
+pub refuses_map : (path : List ℕ) (answer : Result (List FileCoverage) RemapFault) (file : List ℕ) (why : MapFault) (fault : InputFault) → answer ≡ Err (remap.BadMap file why) →
+    IsRefusal fault (map_refusal path why) → Answers (Err fault) (or_unmapped path answer)
+refuses_map path answer file why (Refused refusal) e is = ap (or_unmapped path) e ∙ ap Err (sym is)
+refuses_map path answer file why (ReadFailed at) e is = absurd is
+refuses_map path answer file why Memory e is = tt
 
 -- ---- the files so far
 

@@ -1,6 +1,5 @@
--- Coverage files, read from a store one after another and merged: their sums, or the first refusal.
-use Rattle.std.specs.Prelude.{◌≡◌, ℕ, List, [], ◌∷◌, ◌++◌, map, Bool, is_some, if◌then◌else◌, Option, Some, None, IfSome, Result, Ok, Err, codes}
-use Rattle.std.specs.List.{list_any}
+-- Coverage files, read from a store one after another, each remapped, and merged: their sums, or the first refusal.
+use Rattle.std.specs.Prelude.{◌≡◌, ℕ, List, [], ◌∷◌, ◌++◌, map, Option, Some, None, IfSome, Result, Ok, Err}
 use Rattle.cov_base.specs.Store.{Held}
 use Rattle.cov_object.specs.declared.file.FileCoverage.{FileCoverage}
 use Rattle.cov_object.specs.declared.fault.CoverageFault.{CoverageFault}
@@ -9,9 +8,14 @@ use Rattle.cov_object.specs.Read.{coverage_of}
 use Rattle.cov_merge.specs.declared.fault.MergeFault.{MergeFault}
 use Rattle.cov_merge.specs.declared.fault.MergeFault.TheVariants as merge
 use Rattle.cov_merge.specs.Maps.{merged}
+use Rattle.source_map.specs.declared.fault.MapFault.{MapFault}
+use Rattle.source_map.specs.declared.fault.MapFault.TheVariants as map_fault
+use Rattle.cov_remap.specs.declared.fault.RemapFault.{RemapFault}
+use Rattle.cov_remap.specs.declared.fault.RemapFault.TheVariants as remap
+use Rattle.cov_remap.specs.Remapped.{remapped}
 use Rattle.cov_inputs.specs.declared.fault.InputFault.{InputFault}
 use Rattle.cov_inputs.specs.declared.fault.InputFault.TheVariants as why
-use Rattle.cov_inputs.specs.declared.refusal.What.TheVariants.{NotJson, Member, Count}
+use Rattle.cov_inputs.specs.declared.refusal.What.TheVariants.{NotJson, Member, Count, Mappings}
 use Rattle.cov_inputs.specs.declared.refusal.Refusal.{Refusal}
 use Rattle.cov_inputs.specs.declared.refusal.Refusal.TheVariants.{NoFile, TooLong, BadInput, CountTooLarge}
 
@@ -43,17 +47,32 @@ abbrev pub or_refused : List ℕ → Result (List FileCoverage) CoverageFault �
 or_refused path (Ok files) = Ok files
 or_refused path (Err why) = Err (refusal_of path why)
 
--- source maps aren't followed yet: a file that has one is refused
-abbrev pub has_source_map : FileCoverage → Bool
-has_source_map file = is_some file.input_source_map
-
-abbrev pub without_maps : List ℕ → List FileCoverage → Sums
-without_maps path files = if list_any has_source_map files then Err (BadInput path (Member (codes "inputSourceMap"))) else Ok files
-
 -- what a path gives
 abbrev pub read_at : List ℕ → Option (List ℕ) → Sums
 read_at path None = Err (NoFile path)
-read_at path (Some bytes) = then_by (without_maps path) (or_refused path (coverage_of bytes))
+read_at path (Some bytes) = or_refused path (coverage_of bytes)
+
+-- why the source map of a file in it is none, of the path that was read; the definition of reading a map never answers want of memory
+abbrev pub map_refusal : List ℕ → MapFault → Refusal
+map_refusal path map_fault.TooLong = TooLong path
+map_refusal path map_fault.BadJson = BadInput path NotJson
+map_refusal path (map_fault.BadMember name) = BadInput path (Member name)
+map_refusal path (map_fault.BadMappings at) = BadInput path (Mappings at)
+map_refusal path map_fault.Memory = BadInput path NotJson
+
+-- or that a sum in it is too large
+abbrev pub remap_refusal : List ℕ → RemapFault → Refusal
+remap_refusal path (remap.BadMap file why) = map_refusal path why
+remap_refusal path (remap.CountTooLarge key sum) = CountTooLarge sum
+remap_refusal path remap.Memory = CountTooLarge 0
+
+abbrev pub or_unmapped : List ℕ → Result (List FileCoverage) RemapFault → Sums
+or_unmapped path (Ok files) = Ok files
+or_unmapped path (Err why) = Err (remap_refusal path why)
+
+-- its entries where the source maps of its files send them, with their sums
+abbrev pub remapped_at : List ℕ → List FileCoverage → Sums
+remapped_at path files = or_unmapped path (remapped files)
 
 -- ---- sums
 
@@ -69,12 +88,12 @@ or_too_large (Err why) = Err (sum_of why)
 abbrev pub merged_or_refused : List FileCoverage → Sums
 merged_or_refused files = or_too_large (merged files)
 
--- the sums with a file more: its own equal keys are summed, and then it is merged with those before
-abbrev pub with_files : List FileCoverage → List FileCoverage → Sums
-with_files sums files = then_by (λ own. merged_or_refused (sums ++ own)) (merged_or_refused files)
+-- the sums with a file more: it is remapped, which sums its own equal keys, and then merged with those before
+abbrev pub with_files : List ℕ → List FileCoverage → List FileCoverage → Sums
+with_files path sums files = then_by (λ own. merged_or_refused (sums ++ own)) (remapped_at path files)
 
 abbrev pub with_input : List FileCoverage → Input → Sums
-with_input sums input = then_by (with_files sums) (read_at input.path input.found)
+with_input sums input = then_by (with_files input.path sums) (read_at input.path input.found)
 
 -- the sums with all of these, from the first to the last
 abbrev pub gathered : List FileCoverage → List Input → Sums

@@ -1,5 +1,4 @@
-ghost use Rattle.std.specs.Prelude.{◌≡◌, ◌↔◌, List, [], ◌++◌, Result, Ok, IfOk, IsTrue, Some, codes};
-ghost use Rattle.std.specs.List.{list_any};
+ghost use Rattle.std.specs.Prelude.{◌≡◌, ◌↔◌, List, [], ◌++◌, Result, Ok, IfOk, IsTrue, Some};
 ghost use Rattle.cov_object.specs.Read.{coverage_of};
 ghost use Rattle.cov_object.specs.declared.fault.CoverageFault.TheVariants as unread;
 ghost use Rattle.cov_object.specs.declared.file.FileCoverage.{FileCoverage};
@@ -8,13 +7,15 @@ ghost use Rattle.cov_merge.specs.Answer as Sum;
 ghost use Rattle.cov_merge.specs.Maps.{merged};
 ghost use Rattle.cov_inputs.specs.Inputs as spec;
 ghost use Rattle.cov_inputs.specs.declared.refusal.Refusal.TheVariants as why;
-ghost use Rattle.cov_inputs.specs.declared.refusal.What.TheVariants as what;
+ghost use Rattle.source_map.specs.declared.fault.MapFault.TheVariants as no_map;
 ghost use Rattle.cov_inputs.specs.private.Answer.{Answers, IsRefusal};
 
 use crate::{InputFault, Refusal, What};
-use cov_merge::{MergeFault, each_path, merge, merge_onto};
+use cov_merge::{MergeFault, each_path, merge_onto};
 use cov_object::{CoverageFault, CoverageMap, read_json};
+use cov_remap::{RemapFault, remap, whole_way};
 use items::Text;
+use source_map::MapFault;
 use std::alloc::Global;
 
 /// That there is no file at a path.
@@ -73,35 +74,31 @@ fn map_of(alloc: Global, path: &str, bytes: &[u8]) -> Result<CoverageMap, InputF
     }
 }
 
-/// Whether a file of a map has a source map.
-fn has_source_map(map: &CoverageMap) -> bool
-    ensures { result ≡ list_any spec.has_source_map map.now }
+/// Why the source map of a file in the one at a path is none.
+fn unmapped(alloc: Global, path: &str, fault: MapFault) -> InputFault
+    ensures refusal { IsRefusal result (spec.map_refusal path.now fault) }
+    ensures memory { fault ≡ no_map.Memory → result ≡ InputFault.Memory }
 {
-    let mut found = false;
-    for file in map.files() {
-        found = file.input_source_map.is_some() || found;
-    }
-    found
-}
-
-/// The map of the file at a path, where no file in it has a source map.
-fn without_maps(alloc: Global, path: &str, map: CoverageMap) -> Result<CoverageMap, InputFault>
-    ensures { Answers result (spec.without_maps path.now map) }
-{
-    if has_source_map(&map) {
-        Err(source_map(alloc, path))
-    } else {
-        Ok(map)
+    match fault {
+        MapFault::Memory => InputFault::Memory,
+        MapFault::TooLong => too_long(alloc, path),
+        MapFault::BadJson => bad_input(alloc, path, What::NotJson),
+        MapFault::BadMember { name } => bad_input(alloc, path, What::Member { name }),
+        MapFault::BadMappings { at } => bad_input(alloc, path, What::Mappings { at }),
     }
 }
 
-/// That the file at a path has a source map.
-fn source_map(alloc: Global, path: &str) -> InputFault
-    ensures { IsRefusal result (why.BadInput path.now (what.Member (codes "inputSourceMap"))) }
+/// The map that the file at a path tells, remapped.
+fn remapped(alloc: Global, path: &str, map: &CoverageMap) -> Result<CoverageMap, InputFault>
+    ensures { Answers result (spec.remapped_at path.now map.now) }
 {
-    match Text::from_str(alloc, "inputSourceMap") {
-        Ok(name) => bad_input(alloc, path, What::Member { name }),
-        Err(_) => InputFault::Memory,
+    match remap(alloc, map) {
+        Ok(map) => Ok(map),
+        Err(RemapFault::BadMap { path: _, fault }) => Err(unmapped(alloc, path, fault)),
+        Err(RemapFault::CountTooLarge { key: _, sum }) => {
+            Err(InputFault::Refused(Refusal::CountTooLarge { sum }))
+        }
+        Err(RemapFault::Memory) => Err(InputFault::Memory),
     }
 }
 
@@ -116,13 +113,6 @@ fn or_too_large(sums: Result<CoverageMap, MergeFault>) -> Result<CoverageMap, In
         }
         Err(MergeFault::Memory) => Err(InputFault::Memory),
     }
-}
-
-/// A map whose equal keys are summed.
-fn summed(alloc: Global, map: CoverageMap) -> Result<CoverageMap, InputFault>
-    ensures { Answers result (spec.merged_or_refused map) }
-{
-    or_too_large(merge(alloc, &map, &CoverageMap::new(alloc)))
 }
 
 /// Sums, and a map more: only the paths of the map are touched.
@@ -144,27 +134,26 @@ fn is_empty(map: &CoverageMap) -> bool
     map.files().next().is_none()
 }
 
-/// The sums with this map more. Those of a first map are its own: they are merged already.
-fn with_map(alloc: Global, sums: CoverageMap, map: CoverageMap) -> Result<CoverageMap, InputFault>
+/// The sums with this map more, which the file at a path tells. Those of a first map are its own: they
+/// are merged already.
+fn with_map(
+    alloc: Global,
+    sums: CoverageMap,
+    path: &str,
+    map: &CoverageMap,
+) -> Result<CoverageMap, InputFault>
     requires { merged sums ≡ Ok sums }
-    ensures answers { Answers result (spec.with_files sums map) }
+    ensures answers { Answers result (spec.with_files path.now sums map.now) }
     ensures merged { IfOk result (λ all. merged all ≡ Ok all) }
 {
     each_path();
-    let own = summed(alloc, map)?;
+    whole_way();
+    let own = remapped(alloc, path, map)?;
     if is_empty(&sums) {
         Ok(own)
     } else {
         merged_onto(alloc, sums, &own)
     }
-}
-
-/// The map that the bytes of the file at a path tell, which has no source maps.
-fn read_at(alloc: Global, path: &str, bytes: &[u8]) -> Result<CoverageMap, InputFault>
-    ensures { Answers result (spec.read_at path.now (Some bytes.now)) }
-{
-    let map = map_of(alloc, path, bytes)?;
-    without_maps(alloc, path, map)
 }
 
 /// The sums with the file at a path more, which has these bytes.
@@ -178,6 +167,6 @@ pub(crate) fn with_bytes(
     ensures answers { Answers result (spec.with_input sums (record { path = path.now; found = Some bytes.now })) }
     ensures merged { IfOk result (λ all. merged all ≡ Ok all) }
 {
-    let map = read_at(alloc, path, bytes)?;
-    with_map(alloc, sums, map)
+    let map = map_of(alloc, path, bytes)?;
+    with_map(alloc, sums, path, &map)
 }

@@ -46,13 +46,13 @@ fn with_file<S: Store>(
     }
 }
 
-/// The sums of the coverage files at these paths, which are read and merged one after another: each is
-/// read, has its length and its form, has no source map, and has sums with those before it, before the
+/// The sums of the coverage files at these paths, which are read, remapped and merged one after another:
+/// each is read, has its length and its form, is remapped, and has sums with those before it, before the
 /// next is read.
 ///
 /// # Errors
-/// The first that comes: there is no such file, the read failed, the file is too long, no coverage file
-/// or has a source map, or counts come to 2^53; want of memory at any point.
+/// The first that comes: there is no such file, the read failed, the file is too long or no coverage
+/// file, a source map in it is none, or counts come to 2^53; want of memory at any point.
 pub fn gathered<S: Store>(
     alloc: Global,
     store: &mut S,

@@ -1,6 +1,6 @@
 use items::Text;
 
-/// What is wrong with a coverage file.
+/// What is wrong with a coverage file, or with the source map of a file in it.
 #[derive(Debug, Drop)]
 pub enum What {
     /// It is no JSON.
@@ -9,6 +9,8 @@ pub enum What {
     Member { name: Text },
     /// This count isn't a whole number from 0 to 2^53 - 1.
     Count { name: Text },
+    /// The segment of a source map after so many bytes of its mappings isn't of its form.
+    Mappings { at: u64 },
 }
 
 /// Why coverage files have no sums.
@@ -18,7 +20,7 @@ pub enum Refusal {
     NoFile { path: Text },
     /// The file at this path is longer than 16 MiB.
     TooLong { path: Text },
-    /// The file at this path is no coverage file.
+    /// The file at this path is no coverage file, or a source map in it is none.
     BadInput { path: Text, what: What },
     /// The counts of a key come to 2^53 or more: this is the running sum where it first does.
     CountTooLarge { sum: u64 },

@@ -1,7 +1,6 @@
-ghost use Rattle.std.specs.Prelude.{◌≡◌, ◌++◌, ℕ, List, [], ◌∷◌, None, option_map, IfOk, OnOk};
-ghost use Rattle.cov_remap.specs.Sent.{Sending, in_source, sent};
+ghost use Rattle.std.specs.Prelude.{◌≡◌, ◌++◌, [], ◌∷◌, None, option_map, IfOk, OnOk};
+ghost use Rattle.cov_remap.specs.Sent.{Sending, sent};
 ghost use Rattle.cov_remap.specs.Remapped as spec;
-ghost use Rattle.cov_remap.specs.SourcePath as paths;
 
 use crate::path::source_path;
 use crate::sent::{send_branch, send_function, send_statement};

@@ -1,4 +1,4 @@
-ghost use Rattle.std.specs.Prelude.{◌≡◌, ◌≤◌, filter_map, option_map, IfOk, IfSome};
+ghost use Rattle.std.specs.Prelude.{◌≡◌, ◌≤◌, filter_map, IfOk, IfSome};
 ghost use Rattle.cov_remap.specs.Sent as spec;
 
 use cov_object::{

@@ -102,11 +102,12 @@ kind_text kind.Sparse = codes "Sparse"
 kind_text kind.Convert = codes "Convert"
 kind_text kind.Text = codes "Text"
 
--- what is wrong with a coverage file
+-- what is wrong with a coverage file, or with a source map in it
 abbrev pub what_text : What → List ℕ
 what_text what.NotJson = codes "not JSON"
 what_text (what.Member name) = codes "member " ++ name
 what_text (what.Count name) = codes "count " ++ name
+what_text (what.Mappings at) = codes "mappings at " ++ decimal at
 
 -- the word for what is counted
 abbrev pub metric_text : Metric → List ℕ

@@ -76,7 +76,7 @@ pub enum Complaint<'a> {
     Going {
         turns: u64,
     },
-    /// The file at this path is no coverage file: what is wrong with it.
+    /// The file at this path is no coverage file, or a source map in it is none: what is wrong with it.
     BadInput {
         path: &'a str,
         what: &'a What,
@@ -239,7 +239,7 @@ fn bad_input_line(alloc: Global, path: &str, what: &What) -> Result<Vec<u8>, Mem
     Ok(format!(in alloc; "Bad input: {path}: {wrong}\n")?.into_bytes())
 }
 
-/// What is wrong with a coverage file.
+/// What is wrong with a coverage file, or with a source map in it.
 fn what_text(alloc: Global, what: &What) -> Result<String, Memory>
     ensures { IfOk result (λ text. string_bytes text ≡ what_text what.now) }
 {
@@ -247,6 +247,7 @@ fn what_text(alloc: Global, what: &What) -> Result<String, Memory>
         What::NotJson => String::from_str(alloc, "not JSON"),
         What::Member { name } => named(alloc, "member ", name.as_str()),
         What::Count { name } => named(alloc, "count ", name.as_str()),
+        What::Mappings { at } => format!(in alloc; "mappings at {at}"),
     }
 }
 

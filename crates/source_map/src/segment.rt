@@ -1,7 +1,6 @@
-ghost use Rattle.std.specs.Prelude.{◌≡◌, ◌≤◌, ◌<◌, ◌-◌, ◌+◌, ◌^◌, min, option_map, IfSome};
+ghost use Rattle.std.specs.Prelude.{◌≡◌, ◌<◌, ◌-◌, ◌+◌, ◌^◌, option_map, IfSome};
 ghost use Rattle.source_map.specs.Mappings as exact;
 ghost use Rattle.source_map.specs.private.Pieces as spec;
-ghost use Rattle.source_map.specs.private.Numbers.{first};
 
 use crate::number::{moved, take_number};
 use crate::place::{Origin, Segment};

@@ -1,6 +1,6 @@
 ghost use Rattle.std.specs.Prelude.{◌≡◌, ◌≤◌, ◌<◌, ◌^◌, ◌++◌, ℕ, [], ◌∷◌, length, map, replicate, string_bytes, Ok, IfOk, OnOk};
 ghost use Rattle.serde_json.specs.Data.{string};
-ghost use Rattle.serde_json.specs.View.{view, items_view, items_of};
+ghost use Rattle.serde_json.specs.View.{view};
 ghost use Rattle.source_map.specs.Vlq as vlq;
 ghost use Rattle.source_map.specs.Laws.{IsMap};
 ghost use Rattle.source_map.specs.Read.{source_map_of};

@@ -1,7 +1,13 @@
--- The sums of a first file are its own.
 use Rattle.std.proofs.Common.{refl}
-use Rattle.cov_inputs.proofs.Steps.{first_sums}
+use Rattle.cov_remap.specs.Laws.{run, mapped}
+use Rattle.cov_remap.specs.Remapped.{remapped}
+use Rattle.cov_inputs.proofs.Steps.{as_mapped, first_sums}
 use Rattle.cov_inputs.proofs.file.with_map.Goals as goal
 
 pub returns-then-is_empty-clause-answers : goal.returns-then-is_empty-clause-answers
-returns-then-is_empty-clause-answers c = first_sums c.each_path.ensures.merged_again c.args.sums c.args.map c.in_ok-own.own (c.if-is_empty.ensures.0 refl) c.in_ok-own.ensures
+returns-then-is_empty-clause-answers c =
+    first_sums c.whole_way.ensures.merged c.args.path.now c.args.sums c.args.map.now c.in_ok-own.own (c.if-is_empty.ensures.0 refl) c.in_ok-own.ensures
+
+pub returns-then-is_empty-clause-merged : goal.returns-then-is_empty-clause-merged
+returns-then-is_empty-clause-merged c =
+    c.whole_way.ensures.merged (mapped (run c.args.map.now)) c.in_ok-own.own tt (as_mapped c.args.path.now (remapped c.args.map.now) c.in_ok-own.own c.in_ok-own.ensures)
