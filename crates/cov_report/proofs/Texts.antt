@@ -1,7 +1,11 @@
 -- Texts of files, one after another.
-use Rattle.std.proofs.Common.{◌≡◌, ℕ, List, [], ◌∷◌, ◌++◌, map, Bor, refl, sym, ap, ◌∙◌, append_assoc, append-nil, codes}
+use Rattle.std.proofs.Common.{◌≡◌, ℕ, ◌≤◌, ◌-◌, arith, drop, take, get_or, length, true, false, List, [], ◌∷◌, ◌++◌, map, Bor, refl, sym, ap, ◌∙◌, append_assoc, append-nil, codes}
 use Rattle.std.specs.List.{flat_map}
+use Rattle.std.proofs.lemmas.List.{take_all}
 use Rattle.cov_object.specs.declared.file.FileCoverage.{FileCoverage}
+use Rattle.cov_object.specs.Files.{AreInOrder}
+use Rattle.cov_object.specs.Json.{file_member, json_text}
+use Rattle.cov_object.proofs.WriteLemmas.{by_members}
 use Rattle.cov_summary.specs.Sums.{file_sums, summary_of}
 use Rattle.cov_report.specs.JsonSummary.{file_text, json_summary_text, sums_text}
 use Rattle.cov_report.specs.Table.{file_row, header, row, rule, table_text, width_of}
@@ -55,3 +59,20 @@ table_is files lent width start end wide starts same ends =
   where
     regrouped : (a b d e : List ℕ) → (a ++ (b ++ (a ++ d))) ++ e ≡ a ++ (b ++ (a ++ (d ++ e)))
     regrouped a b d e = simp append_assoc
+
+pub json_is : (first : FileCoverage) (others : List FileCoverage) (start : List ℕ) → start ≡ 123 ∷ file_member false first → AreInOrder (first ∷ others) →
+    start ++ (flat_map (file_member true) others ++ 125 ∷ 10 ∷ []) ≡ json_text (first ∷ others) ++ 10 ∷ []
+json_is first others start starts ordered =
+    ap (λ text. text ++ (flat_map (file_member true) others ++ 125 ∷ 10 ∷ [])) starts
+    ∙ regrouped (123 ∷ file_member false first) (flat_map (file_member true) others)
+    ∙ ap (λ text. text ++ 10 ∷ []) (by_members first others ordered)
+  where
+    regrouped : (a b : List ℕ) → a ++ (b ++ 125 ∷ 10 ∷ []) ≡ (a ++ (b ++ 125 ∷ [])) ++ 10 ∷ []
+    regrouped a b = simp append_assoc
+
+pub first_and_others : (files : List (Bor FileCoverage)) (first : Bor FileCoverage) → 1 ≤ length files → first ≡ get_or files 0 first →
+    first.now ∷ map (λ file. file.now) (take (length files - 1) (drop 1 files)) ≡ map (λ file. file.now) files
+first_and_others [] first some is = absurd (omega (arith, some))
+first_and_others (file ∷ files) first some is =
+    ap (λ (one : Bor FileCoverage). one.now ∷ map (λ file. file.now) (take (length (file ∷ files) - 1) files)) is
+    ∙ ap (λ rest. file.now ∷ map (λ file. file.now) rest) (take_all (length (file ∷ files) - 1) files (omega arith))

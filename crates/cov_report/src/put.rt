@@ -3,6 +3,7 @@ ghost use Rattle.std.specs.List.{flat_map};
 ghost use Rattle.cov_base.specs.Sink.{after_more, TakesPrefix};
 ghost use Rattle.cov_base.specs.Pieces.{Moves, held_of};
 ghost use Rattle.cov_object.specs.declared.file.FileCoverage.{FileCoverage};
+ghost use Rattle.cov_object.specs.Files.{AreInOrder};
 ghost use Rattle.cov_report.specs.Fault.{HasReportCause};
 
 use crate::fault::ReportFault;
@@ -22,7 +23,8 @@ pub(crate) trait Report {
 
 // The files of a map, lent.
 pub(crate) fn files_of(alloc: Global, coverage: &CoverageMap) -> Result<Vec<&FileCoverage>, Memory>
-    ensures { IfOk result (λ files. map (λ file. file.now) files.items ≡ coverage.now) }
+    ensures files { IfOk result (λ files. map (λ file. file.now) files.items ≡ coverage.now) }
+    ensures order { AreInOrder coverage.now }
 {
     coverage.files().collect(alloc)
 }

@@ -1,5 +1,5 @@
 use Rattle.std.proofs.lemmas.Iterator.Consumers.{YieldsList-from_rest, map_from_collect}
 use Rattle.cov_report.proofs.put.files_of.Goals as goal
 
-pub returns : goal.returns
-returns c = map_from_collect c.collect.result c.collect.ensures.ran (YieldsList-from_rest {s = c.files.result} c.args.coverage.now c.files.ensures.files)
+pub returns-clause-files : goal.returns-clause-files
+returns-clause-files c = map_from_collect c.collect.result c.collect.ensures.ran (YieldsList-from_rest {s = c.files.result} c.args.coverage.now c.files.ensures.files)

@@ -8,5 +8,5 @@ pub returns-clause-prefix : goal.returns-clause-prefix
 returns-clause-prefix g c =
     subst (TakesPrefix (g.S.Sink.taken c.args.sink.now) (g.S.Sink.taken c.put_report.new.sink))
     (table_is c.args.map.now (map (λ file. file.now) c.as_slice.result.now) c.width_of-width.result c.deref.result.now c.deref-2.result.now c.width_of-width.ensures
-    (c.deref.ensures.value ∙ c.in_ok-start.ensures) (ap (map (λ file. file.now)) c.as_slice.ensures.value ∙ c.in_ok-files.ensures) (c.deref-2.ensures.value ∙ c.in_ok-end.ensures))
+    (c.deref.ensures.value ∙ c.in_ok-start.ensures) (ap (map (λ file. file.now)) c.as_slice.ensures.value ∙ c.in_ok-files.ensures.files) (c.deref-2.ensures.value ∙ c.in_ok-end.ensures))
     c.put_report.ensures.prefix
