@@ -1,3 +1,4 @@
 pub mod AllNamed
+pub mod ExprPlaces
 pub mod NodePlaces
 pub mod Sample
