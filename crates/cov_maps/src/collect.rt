@@ -2,8 +2,13 @@ ghost use Rattle.std.specs.Prelude.{◌≡◌, ◌++◌, IfOk};
 ghost use Rattle.cov_maps.specs.private.Left.{left_of, told_of};
 ghost use Rattle.js_tree.specs.declared.construct.Construct.{Construct};
 ghost use Rattle.js_tree.specs.Tree.{plain_expr, plain_file, plain_stmt};
-ghost use Rattle.js_walk.specs.Constructs.{Told, constructs_file, left_in, own_construct, own_expr, own_stmt, tell};
+ghost use Rattle.cov_hints.specs.Table.{hint_in_table};
+ghost use Rattle.js_tree.specs.Comments.{hint_before};
+ghost use Rattle.js_tree.specs.Hints.{heed_comments};
+ghost use Rattle.js_tree.specs.declared.place.Pos.{Pos};
+ghost use Rattle.js_walk.specs.Constructs.{Told, constructs_file, left_in, own_construct, own_expr, own_stmt, tell, told};
 ghost use Rattle.js_walk.specs.Part.{AnExpr};
+ghost use Rattle.js_walk.specs.Walk.{walk_file};
 
 use crate::counts::{count, count_body, count_branch, count_default, count_initializer};
 use crate::functions::{count_function, count_method, count_named, count_nameless};
@@ -18,7 +23,7 @@ use crate::places::{
 use cov_hints::{Hints, ignores_file};
 use items::{Items, Memory};
 use js_scopes::Checked;
-use js_tree::{BranchKind, Construct, Expr, ExprNode, Stmt, StmtNode};
+use js_tree::{BranchKind, Construct, Expr, ExprNode, File, Stmt, StmtNode};
 use js_walk::{Part, Visitor, visit_file};
 use std::alloc::Global;
 use std::marker::PhantomData;
@@ -41,18 +46,26 @@ pub fn constructs(alloc: Global, file: &Checked) -> Result<Vec<Construct>, Memor
 {
     let tree = file.file();
     let hints = Hints::of(alloc, tree.comments.as_slice())?;
+    all_named(alloc, collected(alloc, &hints, tree)?)
+}
+
+// What is counted in a file of these hints, before functions without a name get one.
+fn collected(alloc: Global, hints: &Hints, file: &File) -> Result<Items<Construct>, Memory>
+    requires { (token : Pos) → hint_in_table hints.now.held token ≡ hint_before file.now.comments token }
+    ensures { IfOk result (λ out. out ≡ walk_file own_construct tell (plain_file file.now) (told (heed_comments file.now.comments))) }
+{
     let left = Left {
-        hints: &hints,
-        ignored: ignores_file(tree),
+        hints,
+        ignored: ignores_file(file),
     };
     let mut collector = Collector {
         alloc,
         out: Items::new(alloc),
         of: PhantomData,
     };
-    visit_file(&mut collector, &Inherited::of(left), tree)?;
-    let Collector { alloc, out, of: _ } = collector;
-    all_named(alloc, out)
+    visit_file(&mut collector, &Inherited::of(left), file)?;
+    let Collector { alloc: _, out, of: _ } = collector;
+    Ok(out)
 }
 
 impl<'h> Visitor for Collector<'h> {
@@ -137,7 +150,7 @@ fn count_expr(
     expr: &Expr,
     out: &mut Items<Construct>,
 ) -> Result<(), Memory>
-    ensures { IfOk result (λ _. out.new ≡ out.old ++ own_expr (left_of left) chained (plain_expr expr.now)) }
+    ensures { IfOk result (λ _. out.new ≡ out.old ++ own_expr (left_of left.entry) chained (plain_expr expr.now)) }
 {
     match &expr.node {
         ExprNode::FunctionExpression(name, function) => count_function(
@@ -201,7 +214,7 @@ fn count_stmt(
     stmt: &Stmt,
     out: &mut Items<Construct>,
 ) -> Result<(), Memory>
-    ensures { IfOk result (λ _. out.new ≡ out.old ++ own_stmt (left_of left) (plain_stmt stmt.now)) }
+    ensures { IfOk result (λ _. out.new ≡ out.old ++ own_stmt (left_of left.entry) (plain_stmt stmt.now)) }
 {
     match &stmt.node {
         StmtNode::Directive(_)

@@ -22,7 +22,7 @@ pub(crate) fn count(loc: &Option<Loc>, out: &mut Items<Construct>) -> Result<(),
 
 // Counts an expression as a statement.
 fn count_expr(left: Left<'_>, expr: &Expr, out: &mut Items<Construct>) -> Result<(), Memory>
-    ensures { IfOk result (λ _. out.new ≡ out.old ++ counted_expr (left_of left) (plain_expr expr.now)) }
+    ensures { IfOk result (λ _. out.new ≡ out.old ++ counted_expr (left_of left.entry) (plain_expr expr.now)) }
 {
     let within = left.within(place_as_written(expr));
     count(&within.place(place_of_expr(expr)), out)
@@ -35,7 +35,7 @@ pub(crate) fn count_initializer(
     declarator: &Declarator,
     out: &mut Items<Construct>,
 ) -> Result<(), Memory>
-    ensures { IfOk result (λ _. out.new ≡ out.old ++ own_declarator (left_of left) (plain_declarator declarator.now)) }
+    ensures { IfOk result (λ _. out.new ≡ out.old ++ own_declarator (left_of left.entry) (plain_declarator declarator.now)) }
 {
     match &declarator.initializer {
         None => Ok(()),
@@ -50,7 +50,7 @@ pub(crate) fn count_body(
     body: &ConciseBody,
     out: &mut Items<Construct>,
 ) -> Result<(), Memory>
-    ensures { IfOk result (λ _. out.new ≡ out.old ++ own_concise_body (left_of left) (plain_concise_body body.now)) }
+    ensures { IfOk result (λ _. out.new ≡ out.old ++ own_concise_body (left_of left.entry) (plain_concise_body body.now)) }
 {
     match body {
         ConciseBody::ExpressionBody(value) => count_expr(left, value, out),
@@ -85,7 +85,7 @@ pub(crate) fn count_default(
     param: &Param,
     out: &mut Items<Construct>,
 ) -> Result<(), Memory>
-    ensures { IfOk result (λ _. out.new ≡ out.old ++ own_param (left_of left) (plain_param param.now)) }
+    ensures { IfOk result (λ _. out.new ≡ out.old ++ own_param (left_of left.entry) (plain_param param.now)) }
 {
     match &param.default {
         None => Ok(()),

@@ -101,7 +101,7 @@ pub(crate) fn count_method(
     property: &Property,
     out: &mut Items<Construct>,
 ) -> Result<(), Memory>
-    ensures { IfOk result (λ _. out.new ≡ out.old ++ spec.own_property (left_of left) (plain_property property.now)) }
+    ensures { IfOk result (λ _. out.new ≡ out.old ++ spec.own_property (left_of left.entry) (plain_property property.now)) }
 {
     match &property.node {
         PropertyNode::Shorthand(_) => Ok(()),

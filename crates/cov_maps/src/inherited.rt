@@ -24,7 +24,7 @@ pub(crate) struct Inherited<'h> {
 impl<'h> Inherited<'h> {
     // What a part tells that is neither an operand of a chain nor an `if` statement.
     pub(crate) fn of(left: Left<'h>) -> Inherited<'h>
-        ensures { told_of result ≡ spec.told (left_of left) }
+        ensures { told_of result ≡ spec.told (left_of left.entry) }
     {
         Inherited {
             left,
@@ -37,7 +37,7 @@ impl<'h> Inherited<'h> {
 
     // What a logical operator tells.
     fn operand(left: Left<'h>) -> Inherited<'h>
-        ensures { told_of result ≡ spec.told_operand (left_of left) }
+        ensures { told_of result ≡ spec.told_operand (left_of left.entry) }
     {
         Inherited {
             left,
@@ -50,7 +50,7 @@ impl<'h> Inherited<'h> {
 
     // What a pair of parentheses tells.
     fn parenthesized(left: Left<'h>, chained: bool) -> Inherited<'h>
-        ensures { told_of result ≡ spec.told_inner chained (left_of left) }
+        ensures { told_of result ≡ spec.told_inner chained (left_of left.entry) }
     {
         Inherited {
             left,
@@ -63,7 +63,7 @@ impl<'h> Inherited<'h> {
 
     // What an `if` statement tells.
     fn arms(left: Left<'h>, holds: Left<'h>, fails: Left<'h>) -> Inherited<'h>
-        ensures { told_of result ≡ spec.told_arms (left_of left) (left_of holds) (left_of fails) }
+        ensures { told_of result ≡ spec.told_arms (left_of left.entry) (left_of holds.entry) (left_of fails.entry) }
     {
         Inherited {
             left,
@@ -78,7 +78,7 @@ impl<'h> Inherited<'h> {
 // What an expression tells.
 #[tactic(auto, using(js_tree::proofs::Equations::tree_rules))]
 pub(crate) fn tell_expr<'h>(left: Left<'h>, chained: bool, expr: &Expr) -> Inherited<'h>
-    ensures { told_of result ≡ spec.tell_expr (left_of left) chained (plain_expr expr.now) }
+    ensures { told_of result ≡ spec.tell_expr (left_of left.entry) chained (plain_expr expr.now) }
 {
     match &expr.node {
         ExprNode::Logical(_, _, _) => Inherited::operand(left),
@@ -90,7 +90,7 @@ pub(crate) fn tell_expr<'h>(left: Left<'h>, chained: bool, expr: &Expr) -> Inher
 // What a statement tells.
 #[tactic(auto, using(js_tree::proofs::Equations::tree_rules))]
 pub(crate) fn tell_stmt<'h>(left: Left<'h>, stmt: &Stmt) -> Inherited<'h>
-    ensures { told_of result ≡ spec.tell_stmt (left_of left) (plain_stmt stmt.now) }
+    ensures { told_of result ≡ spec.tell_stmt (left_of left.entry) (plain_stmt stmt.now) }
 {
     match &stmt.node {
         StmtNode::If(_, _, _) => Inherited::arms(

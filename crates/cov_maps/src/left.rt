@@ -18,21 +18,21 @@ pub(crate) struct Left<'h> {
 impl<'h> Left<'h> {
     // What is left in a node that stands here.
     pub(crate) fn within(self, place: Option<Loc>) -> Left<'h>
-        ensures { left_of result ≡ spec.heed (left_of self) place }
+        ensures { left_of result ≡ spec.heed (left_of self.entry) place }
     {
         self.without(Hint::Next, place)
     }
 
     // What is left in an arm of an `if` statement that stands here.
     pub(crate) fn within_arm(self, which: Hint, place: Option<Loc>) -> Left<'h>
-        ensures { left_of result ≡ spec.heed_arm which (left_of self) place }
+        ensures { left_of result ≡ spec.heed_arm which (left_of self.entry) place }
     {
         self.without(which, place)
     }
 
     // What is left where this hint takes a part out.
     fn without(self, which: Hint, place: Option<Loc>) -> Left<'h>
-        ensures { left_of result ≡ spec.heed_arm which (left_of self) place }
+        ensures { left_of result ≡ spec.heed_arm which (left_of self.entry) place }
     {
         Left {
             hints: self.hints,
@@ -42,7 +42,7 @@ impl<'h> Left<'h> {
 
     // Where something is counted that stands here.
     pub(crate) fn place(self, place: Option<Loc>) -> Option<Loc>
-        ensures { result ≡ spec.heeded_place (left_of self) place }
+        ensures { result ≡ spec.heeded_place (left_of self.entry) place }
     {
         if self.ignored { None } else { place }
     }

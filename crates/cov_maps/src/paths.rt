@@ -14,7 +14,7 @@ use js_tree::{Case, Expr, ExprNode, Hint, Loc, Stmt};
 
 // Puts the path of a part at the end that stands here, unless it is taken out.
 fn push_path(left: Left<'_>, place: Option<Loc>, out: &mut Items<Option<Loc>>) -> Result<(), Memory>
-    ensures { IfOk result (λ _. out.new ≡ out.old ++ spec.path_in (left_of left) place) }
+    ensures { IfOk result (λ _. out.new ≡ out.old ++ spec.path_in (left_of left.entry) place) }
 {
     if left.ignored {
         Ok(())
@@ -29,7 +29,7 @@ pub(crate) fn push_expr_path(
     expr: &Expr,
     out: &mut Items<Option<Loc>>,
 ) -> Result<(), Memory>
-    ensures { IfOk result (λ _. out.new ≡ out.old ++ expr_paths (left_of left) (plain_expr expr.now)) }
+    ensures { IfOk result (λ _. out.new ≡ out.old ++ expr_paths (left_of left.entry) (plain_expr expr.now)) }
 {
     push_path(left.within(place_as_written(expr)), place_of_expr(expr), out)
 }
@@ -42,7 +42,7 @@ pub(crate) fn push_if_paths(
     fails: &Option<Boxed<Stmt>>,
     out: &mut Items<Option<Loc>>,
 ) -> Result<(), Memory>
-    ensures { IfOk result (λ _. out.new ≡ out.old ++ if_paths (left_of left) loc (plain_stmt holds.now) (plain_stmt_if fails.now)) }
+    ensures { IfOk result (λ _. out.new ≡ out.old ++ if_paths (left_of left.entry) loc (plain_stmt holds.now) (plain_stmt_if fails.now)) }
 {
     push_path(
         left.within_arm(Hint::If, loc).within(place_of_stmt(holds)),
@@ -63,7 +63,7 @@ fn push_case_path(
     case: &Case,
     out: &mut Items<Option<Loc>>,
 ) -> Result<(), Memory>
-    ensures { IfOk result (λ _. out.new ≡ out.old ++ spec.path_in (spec.heed (left_of left) (case_place (plain_case case.now))) (case_place (plain_case case.now))) }
+    ensures { IfOk result (λ _. out.new ≡ out.old ++ spec.path_in (spec.heed (left_of left.entry) (case_place (plain_case case.now))) (case_place (plain_case case.now))) }
 {
     let place = place_of_case(case);
     push_path(left.within(place), place, out)
@@ -76,7 +76,7 @@ pub(crate) fn push_case_paths(
     cases: &[Case],
     out: &mut Items<Option<Loc>>,
 ) -> Result<(), Memory>
-    ensures { IfOk result (λ _. out.new ≡ out.old ++ spec.case_paths (left_of left) (plain_cases cases.now)) }
+    ensures { IfOk result (λ _. out.new ≡ out.old ++ spec.case_paths (left_of left.entry) (plain_cases cases.now)) }
 {
     for case in cases {
         push_case_path(left, case, out)?;
@@ -90,7 +90,7 @@ pub(crate) fn push_operand_paths(
     expr: &Expr,
     out: &mut Items<Option<Loc>>,
 ) -> Result<(), Memory>
-    ensures { IfOk result (λ _. out.new ≡ out.old ++ spec.leaf_paths (spec.heed (left_of left) (expr_place (plain_expr expr.now))) (plain_expr expr.now)) }
+    ensures { IfOk result (λ _. out.new ≡ out.old ++ spec.leaf_paths (spec.heed (left_of left.entry) (expr_place (plain_expr expr.now))) (plain_expr expr.now)) }
 {
     push_leaf_paths(left.within(place_as_written(expr)), expr, out)
 }
@@ -102,7 +102,7 @@ fn push_leaf_paths(
     expr: &Expr,
     out: &mut Items<Option<Loc>>,
 ) -> Result<(), Memory>
-    ensures { IfOk result (λ _. out.new ≡ out.old ++ spec.leaf_paths (left_of left) (plain_expr expr.now)) }
+    ensures { IfOk result (λ _. out.new ≡ out.old ++ spec.leaf_paths (left_of left.entry) (plain_expr expr.now)) }
 {
     match &expr.node {
         ExprNode::Logical(_, first, second) => {

@@ -102,7 +102,7 @@ operand_entered : (m : Marking) (chain : Chain) (a : Linked Expr) → unmarked_e
 operand_entered m Alone a = refl
 operand_entered m (Operand b path) a = leaf_entered (by_path m b) path a.tree
 
-operand_kept : (chain : Chain) (a : Linked Expr) → (operand Unmarked chain a).tree ≡ a.tree
+pub operand_kept : (chain : Chain) (a : Linked Expr) → (operand Unmarked chain a).tree ≡ a.tree
 operand_kept Alone a = refl
 operand_kept (Operand b path) a = leaf_kept path a.tree
 

@@ -1,5 +1,5 @@
 -- What the code's words on hints stand for.
-use Rattle.std.specs.Prelude.{Bool, List, Option, if◌then◌else◌}
+use Rattle.std.specs.Prelude.{if◌then◌else◌}
 use Rattle.cov_hints.specs.Table.{hint_in_table}
 use Rattle.cov_maps.specs.declared.left.Left.{Left}
 use Rattle.cov_maps.specs.declared.inherited.Inherited.{Inherited}
