@@ -64,7 +64,11 @@ fn collected(alloc: Global, hints: &Hints, file: &File) -> Result<Items<Construc
         of: PhantomData,
     };
     visit_file(&mut collector, &Inherited::of(left), file)?;
-    let Collector { alloc: _, out, of: _ } = collector;
+    let Collector {
+        alloc: _,
+        out,
+        of: _,
+    } = collector;
     Ok(out)
 }
 

@@ -6,9 +6,7 @@ ghost use Rattle.js_tree.specs.Tree.{plain_case, plain_cases, plain_expr, plain_
 ghost use Rattle.js_walk.specs.Constructs.{expr_paths, if_paths};
 
 use crate::left::Left;
-use crate::places::{
-    place_as_written, place_of_arm, place_of_case, place_of_expr, place_of_stmt,
-};
+use crate::places::{place_as_written, place_of_arm, place_of_case, place_of_expr, place_of_stmt};
 use items::{Boxed, Items, Memory};
 use js_tree::{Case, Expr, ExprNode, Hint, Loc, Stmt};
 
@@ -31,7 +29,11 @@ pub(crate) fn push_expr_path(
 ) -> Result<(), Memory>
     ensures { IfOk result (λ _. out.new ≡ out.old ++ expr_paths (left_of left.entry) (plain_expr expr.now)) }
 {
-    push_path(left.within(place_as_written(expr)), place_of_expr(expr), out)
+    push_path(
+        left.within(place_as_written(expr)),
+        place_of_expr(expr),
+        out,
+    )
 }
 
 // Puts the paths of an `if` statement at the end.
@@ -50,19 +52,11 @@ pub(crate) fn push_if_paths(
         out,
     )?;
     let place = place_of_arm(fails);
-    push_path(
-        left.within_arm(Hint::Else, loc).within(place),
-        place,
-        out,
-    )
+    push_path(left.within_arm(Hint::Else, loc).within(place), place, out)
 }
 
 // Puts the path of a case at the end.
-fn push_case_path(
-    left: Left<'_>,
-    case: &Case,
-    out: &mut Items<Option<Loc>>,
-) -> Result<(), Memory>
+fn push_case_path(left: Left<'_>, case: &Case, out: &mut Items<Option<Loc>>) -> Result<(), Memory>
     ensures { IfOk result (λ _. out.new ≡ out.old ++ spec.path_in (spec.heed (left_of left.entry) (case_place (plain_case case.now))) (case_place (plain_case case.now))) }
 {
     let place = place_of_case(case);
@@ -97,17 +91,17 @@ pub(crate) fn push_operand_paths(
 
 // Puts the paths of the leaves of a chain at the end.
 #[tactic(auto, using(js_tree::proofs::Equations::tree_rules))]
-fn push_leaf_paths(
-    left: Left<'_>,
-    expr: &Expr,
-    out: &mut Items<Option<Loc>>,
-) -> Result<(), Memory>
+fn push_leaf_paths(left: Left<'_>, expr: &Expr, out: &mut Items<Option<Loc>>) -> Result<(), Memory>
     ensures { IfOk result (λ _. out.new ≡ out.old ++ spec.leaf_paths (left_of left.entry) (plain_expr expr.now)) }
 {
     match &expr.node {
         ExprNode::Logical(_, first, second) => {
             push_leaf_paths(left.within(place_as_written(first.get())), first.get(), out)?;
-            push_leaf_paths(left.within(place_as_written(second.get())), second.get(), out)
+            push_leaf_paths(
+                left.within(place_as_written(second.get())),
+                second.get(),
+                out,
+            )
         }
         ExprNode::Parenthesized(inner) => push_leaf_paths(left, inner.get(), out),
         ExprNode::IdentifierReference(_) => push_path(left, expr.loc, out),

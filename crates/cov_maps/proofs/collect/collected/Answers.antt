@@ -14,6 +14,6 @@ returns c =
     c.in_ok-visit_file.ensures
     ∙ ap (λ l. l ++ within_stmts own_construct tell (plain_stmts c.args.file.now.body) (told_of c.of.result)) c.new.ensures
     ∙ ap (within_stmts own_construct tell (plain_stmts c.args.file.now.body))
-      (c.of.ensures
-      ∙ ap (λ b. told (if b then Ignored else Heeding (hint_in_table c.args.hints.now.held))) c.ignores_file.ensures
-      ∙ ap told (left_same (hint_in_table c.args.hints.now.held) c.args.file.now.comments c.requires))
+    (c.of.ensures
+    ∙ ap (λ b. told (if b then Ignored else Heeding (hint_in_table c.args.hints.now.held))) c.ignores_file.ensures
+    ∙ ap told (left_same (hint_in_table c.args.hints.now.held) c.args.file.now.comments c.requires))
