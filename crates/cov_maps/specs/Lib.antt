@@ -1,3 +1,4 @@
 pub mod Located
 pub mod Placed
 pub mod Zero
+pub mod private

@@ -1,11 +1,13 @@
-ghost use Rattle.std.specs.Prelude.{◌≡◌, ◌++◌, false, IfOk};
-ghost use Rattle.js_tree.specs.Tree.{plain_concise_body, plain_expr_if, plain_param, plain_stmt_if};
-ghost use Rattle.js_walk.specs.Constructs.{branch, counted, counted_initializer, if_branch, own_construct};
-ghost use Rattle.js_walk.specs.Part.{AConciseBody, AParam};
+ghost use Rattle.std.specs.Prelude.{◌≡◌, ◌++◌, IfOk};
+ghost use Rattle.cov_maps.specs.private.Left.{left_of};
+ghost use Rattle.js_tree.specs.Tree.{plain_concise_body, plain_declarator, plain_expr, plain_param};
+ghost use Rattle.js_walk.specs.Constructs.{branch, counted, counted_expr, own_concise_body, own_declarator, own_param};
 
-use crate::places::{place_of_arm, place_of_expr};
-use items::{Boxed, Items, Memory};
-use js_tree::{BranchKind, ConciseBody, Construct, Expr, Loc, Param, Stmt};
+use crate::left::Left;
+use crate::paths::push_expr_path;
+use crate::places::{place_as_written, place_of_expr};
+use items::{Items, Memory};
+use js_tree::{BranchKind, ConciseBody, Construct, Declarator, Expr, Loc, Param};
 use std::alloc::Global;
 
 // Counts a statement, where it has a place.
@@ -18,27 +20,40 @@ pub(crate) fn count(loc: &Option<Loc>, out: &mut Items<Construct>) -> Result<(),
     }
 }
 
-// Counts an initializer, where there is one with a place.
+// Counts an expression as a statement.
+fn count_expr(left: Left<'_>, expr: &Expr, out: &mut Items<Construct>) -> Result<(), Memory>
+    ensures { IfOk result (λ _. out.new ≡ out.old ++ counted_expr (left_of left.entry) (plain_expr expr.now)) }
+{
+    let within = left.within(place_as_written(expr));
+    count(&within.place(place_of_expr(expr)), out)
+}
+
+// Counts the initializer of a declarator, where there is one.
 #[tactic(auto, using(js_tree::proofs::Equations::tree_rules))]
 pub(crate) fn count_initializer(
-    initializer: &Option<Boxed<Expr>>,
+    left: Left<'_>,
+    declarator: &Declarator,
     out: &mut Items<Construct>,
 ) -> Result<(), Memory>
-    ensures { IfOk result (λ _. out.new ≡ out.old ++ counted_initializer (plain_expr_if initializer.now)) }
+    ensures { IfOk result (λ _. out.new ≡ out.old ++ own_declarator (left_of left.entry) (plain_declarator declarator.now)) }
 {
-    match initializer {
+    match &declarator.initializer {
         None => Ok(()),
-        Some(expr) => count(&place_of_expr(expr.get()), out),
+        Some(expr) => count_expr(left, expr.get(), out),
     }
 }
 
 // Counts the expression that is an arrow's body.
 #[tactic(auto, using(js_tree::proofs::Equations::tree_rules))]
-pub(crate) fn count_body(body: &ConciseBody, out: &mut Items<Construct>) -> Result<(), Memory>
-    ensures { IfOk result (λ _. out.new ≡ out.old ++ own_construct false (AConciseBody (plain_concise_body body.now))) }
+pub(crate) fn count_body(
+    left: Left<'_>,
+    body: &ConciseBody,
+    out: &mut Items<Construct>,
+) -> Result<(), Memory>
+    ensures { IfOk result (λ _. out.new ≡ out.old ++ own_concise_body (left_of left.entry) (plain_concise_body body.now)) }
 {
     match body {
-        ConciseBody::ExpressionBody(value) => count(&place_of_expr(value), out),
+        ConciseBody::ExpressionBody(value) => count_expr(left, value, out),
         ConciseBody::BlockBody(_) => Ok(()),
     }
 }
@@ -62,38 +77,22 @@ pub(crate) fn count_branch(
     }
 }
 
-// Counts an `if` and its branch, where it has a place.
-#[tactic(auto, using(js_tree::proofs::Equations::tree_rules))]
-pub(crate) fn count_if(
-    alloc: Global,
-    loc: &Option<Loc>,
-    otherwise: &Option<Boxed<Stmt>>,
-    out: &mut Items<Construct>,
-) -> Result<(), Memory>
-    ensures { IfOk result (λ _. out.new ≡ out.old ++ (counted loc.now ++ if_branch loc.now (plain_stmt_if otherwise.now))) }
-{
-    count(loc, out)?;
-    let mut paths = Items::new(alloc);
-    paths.push(*loc)?;
-    paths.push(place_of_arm(otherwise))?;
-    count_branch(BranchKind::If, loc, paths, out)
-}
-
 // Counts the default of a parameter.
 #[tactic(auto, using(js_tree::proofs::Equations::tree_rules))]
 pub(crate) fn count_default(
     alloc: Global,
+    left: Left<'_>,
     param: &Param,
     out: &mut Items<Construct>,
 ) -> Result<(), Memory>
-    ensures { IfOk result (λ _. out.new ≡ out.old ++ own_construct false (AParam (plain_param param.now))) }
+    ensures { IfOk result (λ _. out.new ≡ out.old ++ own_param (left_of left.entry) (plain_param param.now)) }
 {
     match &param.default {
         None => Ok(()),
         Some(default) => {
             let mut paths = Items::new(alloc);
-            paths.push(place_of_expr(default.get()))?;
-            count_branch(BranchKind::Default, &param.loc, paths, out)
+            push_expr_path(left, default.get(), &mut paths)?;
+            count_branch(BranchKind::Default, &left.place(param.loc), paths, out)
         }
     }
 }

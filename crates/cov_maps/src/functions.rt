@@ -1,8 +1,9 @@
-ghost use Rattle.std.specs.Prelude.{◌≡◌, ◌++◌, false, Some, None, IfOk};
+ghost use Rattle.std.specs.Prelude.{◌≡◌, ◌++◌, Some, None, IfOk};
+ghost use Rattle.cov_maps.specs.private.Left.{left_of};
 ghost use Rattle.js_tree.specs.Tree.{plain_property};
 ghost use Rattle.js_walk.specs.Constructs as spec;
-ghost use Rattle.js_walk.specs.Part.{AProperty};
 
+use crate::left::Left;
 use crate::places::place_of_body;
 use items::{Items, Memory, Text};
 use js_tree::{Construct, Identifier, Loc, Pos, Property, PropertyNode};
@@ -96,17 +97,18 @@ pub(crate) fn count_function(
 #[tactic(auto, using(js_tree::proofs::Equations::tree_rules))]
 pub(crate) fn count_method(
     alloc: Global,
+    left: Left<'_>,
     property: &Property,
     out: &mut Items<Construct>,
 ) -> Result<(), Memory>
-    ensures { IfOk result (λ _. out.new ≡ out.old ++ spec.own_construct false (AProperty (plain_property property.now))) }
+    ensures { IfOk result (λ _. out.new ≡ out.old ++ spec.own_property (left_of left.entry) (plain_property property.now)) }
 {
     match &property.node {
         PropertyNode::Shorthand(_) => Ok(()),
         PropertyNode::KeyValue(_, _) => Ok(()),
         PropertyNode::Method(_, function) => count_nameless(
             alloc,
-            &property.loc,
+            &left.place(property.loc),
             place_of_body(function.get()),
             out,
         ),

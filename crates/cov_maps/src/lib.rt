@@ -4,7 +4,10 @@
 mod collect;
 mod counts;
 mod functions;
+mod inherited;
+mod left;
 mod names;
+mod paths;
 mod places;
 mod zeroed;
 

@@ -1,9 +1,12 @@
-ghost use Rattle.std.specs.Prelude.{◌≡◌, [], ◌∷◌, ◌++◌, IfOk};
-ghost use Rattle.js_tree.specs.Tree.{plain_case, plain_cases, plain_concise_body, plain_expr, plain_function, plain_function_body, plain_stmt, plain_stmt_if};
-ghost use Rattle.js_tree.specs.Places.{bare_place, body_place, braced_place, case_place, case_places, concise_place, leaf_places, stmt_if_place, stmt_place};
+ghost use Rattle.std.specs.Prelude.{◌≡◌};
+ghost use Rattle.js_tree.specs.Tree.{plain_case, plain_concise_body, plain_declarator, plain_expr, plain_function, plain_function_body, plain_param, plain_property, plain_stmt, plain_stmt_if};
+ghost use Rattle.js_tree.specs.Places.{bare_place, body_place, braced_place, case_place, concise_place, declarator_place, expr_place, param_place, property_place, stmt_if_place, stmt_place};
 
-use items::{Boxed, Items, Memory};
-use js_tree::{Case, ConciseBody, Expr, ExprNode, Function, FunctionBody, Loc, Stmt};
+use items::Boxed;
+use js_tree::{
+    Case, ConciseBody, Declarator, Expr, ExprNode, Function, FunctionBody, Loc, Param, Property,
+    PropertyNode, Stmt,
+};
 
 // Where a statement stands.
 #[tactic(auto, using(crate::proofs::NodePlaces::stmt_place_same))]
@@ -64,63 +67,44 @@ pub(crate) fn place_of_concise(body: &ConciseBody) -> Option<Loc>
 
 // Where a case of a `switch` stands.
 #[tactic(auto, using(js_tree::proofs::Equations::tree_rules))]
-fn place_of_case(case: &Case) -> Option<Loc>
+pub(crate) fn place_of_case(case: &Case) -> Option<Loc>
     ensures { result ≡ case_place (plain_case case.now) }
 {
     case.loc
 }
 
-// Puts the places of the cases of a `switch` at the end.
-#[tactic(auto, using(js_tree::proofs::Equations::tree_rules))]
-pub(crate) fn push_case_places(cases: &[Case], out: &mut Items<Option<Loc>>) -> Result<(), Memory>
-    ensures { IfOk result (λ _. out.new ≡ out.old ++ case_places (plain_cases cases.now)) }
+// Where an expression stands, with the parentheses round it.
+#[tactic(auto, using(crate::proofs::ExprPlaces::expr_place_same))]
+pub(crate) fn place_as_written(expr: &Expr) -> Option<Loc>
+    ensures { result ≡ expr_place (plain_expr expr.now) }
 {
-    for case in cases {
-        out.push(place_of_case(case))?;
-    }
-    Ok(())
+    expr.loc
 }
 
-// Puts a place at the end.
-fn push_place(place: &Option<Loc>, out: &mut Items<Option<Loc>>) -> Result<(), Memory>
-    ensures { IfOk result (λ _. out.new ≡ out.old ++ place.now ∷ []) }
+// Where a property stands.
+#[tactic(auto, using(js_tree::proofs::Equations::tree_rules))]
+pub(crate) fn place_of_property(property: &Property) -> Option<Loc>
+    ensures { result ≡ property_place (plain_property property.now) }
 {
-    out.push(*place)
+    match &property.node {
+        PropertyNode::Shorthand(_) => property.loc,
+        PropertyNode::KeyValue(_, _) => property.loc,
+        PropertyNode::Method(_, _) => property.loc,
+    }
 }
 
-// Puts the places of the leaves of a chain at the end.
+// Where a parameter stands.
 #[tactic(auto, using(js_tree::proofs::Equations::tree_rules))]
-pub(crate) fn push_leaf_places(expr: &Expr, out: &mut Items<Option<Loc>>) -> Result<(), Memory>
-    ensures { IfOk result (λ _. out.new ≡ out.old ++ leaf_places (plain_expr expr.now)) }
+pub(crate) fn place_of_param(param: &Param) -> Option<Loc>
+    ensures { result ≡ param_place (plain_param param.now) }
 {
-    match &expr.node {
-        ExprNode::Logical(_, left, right) => {
-            push_leaf_places(left.get(), out)?;
-            push_leaf_places(right.get(), out)
-        }
-        ExprNode::Parenthesized(inner) => push_leaf_places(inner.get(), out),
-        ExprNode::IdentifierReference(_) => push_place(&expr.loc, out),
-        ExprNode::This => push_place(&expr.loc, out),
-        ExprNode::NullLiteral => push_place(&expr.loc, out),
-        ExprNode::BooleanLiteral(_) => push_place(&expr.loc, out),
-        ExprNode::NumericLiteral(_) => push_place(&expr.loc, out),
-        ExprNode::StringLiteral(_) => push_place(&expr.loc, out),
-        ExprNode::ArrayLiteral(_) => push_place(&expr.loc, out),
-        ExprNode::ObjectLiteral(_) => push_place(&expr.loc, out),
-        ExprNode::FunctionExpression(_, _) => push_place(&expr.loc, out),
-        ExprNode::ArrowFunction(_, _) => push_place(&expr.loc, out),
-        ExprNode::RegularExpressionLiteral(_, _) => push_place(&expr.loc, out),
-        ExprNode::TemplateLiteral(_, _) => push_place(&expr.loc, out),
-        ExprNode::NamedMember(_, _) => push_place(&expr.loc, out),
-        ExprNode::ComputedMember(_, _) => push_place(&expr.loc, out),
-        ExprNode::New(_, _) => push_place(&expr.loc, out),
-        ExprNode::Call(_, _) => push_place(&expr.loc, out),
-        ExprNode::PostfixUpdate(_, _) => push_place(&expr.loc, out),
-        ExprNode::PrefixUpdate(_, _) => push_place(&expr.loc, out),
-        ExprNode::Unary(_, _) => push_place(&expr.loc, out),
-        ExprNode::Binary(_, _, _) => push_place(&expr.loc, out),
-        ExprNode::Conditional(_, _, _) => push_place(&expr.loc, out),
-        ExprNode::Assignment(_, _, _) => push_place(&expr.loc, out),
-        ExprNode::Comma(_, _) => push_place(&expr.loc, out),
-    }
+    param.loc
+}
+
+// Where a declarator stands.
+#[tactic(auto, using(js_tree::proofs::Equations::tree_rules))]
+pub(crate) fn place_of_declarator(declarator: &Declarator) -> Option<Loc>
+    ensures { result ≡ declarator_place (plain_declarator declarator.now) }
+{
+    declarator.loc
 }

@@ -1,9 +1,11 @@
 -- What is owed for a command on a source, which `maps` and `exec` are: when each status is due, what is printed, and what is said.
-use Rattle.std.specs.Prelude.{◌≡◌, ℕ, false, ◌<◌, ◌≤◌, List, [], ◌∷◌, ◌++◌, length, Option, None, Some, IfSome}
+use Rattle.std.specs.Prelude.{◌≡◌, ℕ, false, ◌<◌, ◌≤◌, List, [], ◌∷◌, ◌++◌, length, Option, None, Some, IfSome, codes, if◌then◌else◌}
 use Rattle.std.specs.Str.{IsUtf8}
 use Rattle.std.specs.Str.Lossy.{utf8_valid_len}
 use Rattle.js_tree.specs.declared.place.Pos.{Pos}
-use Rattle.js_tree.specs.Plain.{File}
+use Rattle.js_tree.specs.Comments.{ignores_file}
+use Rattle.js_tree.specs.Plain.{File, MakeFile}
+use Rattle.js_tree.specs.declared.words.Comment.{Comment}
 use Rattle.js_tree.specs.Height.{height_file}
 use Rattle.js_tree.specs.declared.construct.Construct.{Construct}
 use Rattle.js_walk.specs.Constructs.{constructs_file}
@@ -53,9 +55,12 @@ pub record Takes (task : SourceTask) (bytes : List ℕ) (tree : File) : Type 0 w
 abbrev pub zero_text : List ℕ → List ℕ → List Construct → List ℕ
 zero_text path bytes list = json_text (zero_file path (hash_text bytes) list ∷ []) ++ 0x0A ∷ []
 
--- that of a file
+abbrev pub comments_of : File → List Comment
+comments_of (MakeFile body comments) = comments
+
+-- that of a file: the empty map where one of its comments takes it out
 abbrev pub maps_text : List ℕ → List ℕ → File → List ℕ
-maps_text path bytes tree = zero_text path bytes (constructs_file tree)
+maps_text path bytes tree = if ignores_file (comments_of tree) then codes "{}" ++ 0x0A ∷ [] else zero_text path bytes (constructs_file tree)
 
 -- the answer of a run: what it printed, and how it ended
 abbrev pub answer_of_run : PlainRun → Answer

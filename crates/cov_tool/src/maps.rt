@@ -8,6 +8,7 @@ ghost use Rattle.cov_tool.specs.Source as spec;
 
 use crate::answer::Answer;
 use crate::hash::hash_of;
+use cov_hints::ignores_file;
 use cov_maps::{Construct, constructs, zero};
 use cov_object::{CoverageMap, write_json};
 use items::{Items, Memory};
@@ -37,14 +38,26 @@ fn text_for(alloc: Global, path: &str, text: &Text, list: Vec<Construct>) -> Res
     Ok(printed)
 }
 
-/// The answer of `maps`: its text, and no end but that it is done. The tree is dropped before the
-/// text is made.
+/// What is printed for a file: the empty map where one of its comments takes it out. The tree is
+/// dropped before the text is made.
+fn printed_for(alloc: Global, path: &str, text: &Text, file: Checked) -> Result<Vec<u8>, Memory>
+    requires { Reads text.now (plain_file file) }
+    ensures { IfOk result (λ printed. printed.items ≡ spec.maps_text path.now text.now (plain_file file)) }
+{
+    if ignores_file(file.file()) {
+        Vec::from_slice(alloc, "{}\n".as_bytes())
+    } else {
+        let list = constructs_of(alloc, file)?;
+        text_for(alloc, path, text, list)
+    }
+}
+
+/// The answer of `maps`: its text, and no end but that it is done.
 pub(crate) fn maps(alloc: Global, path: &str, text: &Text, file: Checked) -> Result<Answer, Memory>
     requires { Reads text.now (plain_file file) }
     ensures { IfOk result (λ answer. answer ≡ spec.answer_of Maps path.now text.now (plain_file file)) }
 {
-    let list = constructs_of(alloc, file)?;
-    let printed = text_for(alloc, path, text, list)?;
+    let printed = printed_for(alloc, path, text, file)?;
     Ok(Answer {
         output: Items::from_vec(printed),
         end: End::Done,

@@ -1,9 +1,10 @@
 -- What code reads has no marks and no functions: numbers are put nowhere in it.
-use Rattle.std.proofs.Common.{◌≡◌, ℕ, zero, suc, Bool, false, List, Option, Some, None, Result, Ok, Err, IfOk, refl, ap, sym, ◌∙◌}
+use Rattle.std.proofs.Common.{◌≡◌, ℕ, zero, suc, List, Option, Some, None, Result, Ok, Err, IfOk, refl, ap, sym, ◌∙◌}
 use Rattle.js_tree.specs.Plain as P
 use Rattle.js_tree.specs.declared.operators.AssignmentOperator.TheVariants as assignment
 use Rattle.js_tree.specs.declared.operators.VariableKind.TheVariants as variable
-use Rattle.js_tree.specs.Linked.{Numbers, Unmarked, link_expr, link_exprs, link_stmt, link_stmt_if, link_stmts, link_declarators}
+use Rattle.js_tree.proofs.Unmarked.{operand_kept}
+use Rattle.js_tree.specs.Linked.{Numbers, Unmarked, Chain, Alone, link_expr, link_exprs, link_stmt, link_stmt_if, link_stmts, link_declarators}
 use Rattle.js_code.specs.declared.node.Node.{Node}
 use Rattle.js_code.specs.declared.node.Node.TheVariants.{Parenthesized, Call, Binary, Assignment, MoreExpressions, Block, VariableDeclaration, Expression, If, While, MoreStatements, MoreDeclarators}
 use Rattle.js_code.specs.Node.{Reader, stmt_if, build_expr, build_exprs, build_stmt, build_stmts, build_declarators}
@@ -11,7 +12,7 @@ use Rattle.js_code.specs.Code.{numbered, node_at, reader_to, reader, ReadsStmts}
 
 -- numbers change nothing that is read
 record Bare (t : Reader) : Type 0 where
-  pub expr : (i : ℕ) (chained : Bool) (k : Numbers) → (link_expr Unmarked chained (t.expr i) k).tree ≡ t.expr i
+  pub expr : (i : ℕ) (chain : Chain) (k : Numbers) → (link_expr Unmarked chain (t.expr i) k).tree ≡ t.expr i
   pub exprs : (i : ℕ) (k : Numbers) → (link_exprs Unmarked (t.exprs i) k).tree ≡ t.exprs i
   pub stmt : (i : ℕ) (k : Numbers) → (link_stmt Unmarked (t.stmt i) k).tree ≡ t.stmt i
   pub stmts : (i : ℕ) (k : Numbers) → (link_stmts Unmarked (t.stmts i) k).tree ≡ t.stmts i
@@ -24,19 +25,19 @@ three_same : {A B C T : Type 0} (f : A → B → C → T) {a a' : A} {b b' : B} 
 three_same f e g h = cc
 
 module _ (t : Reader) (b : Bare t) where
-  bare_expr : (node : Node) (chained : Bool) (k : Numbers) → (link_expr Unmarked chained (build_expr t node) k).tree ≡ build_expr t node
-  bare_expr (Parenthesized loc inner) chained k = ap (P.Parenthesized loc) (b.expr inner chained k)
-  bare_expr (Call loc callee arguments) chained k =
-      two_same (P.Call loc) (b.expr callee false k) (b.exprs arguments (link_expr Unmarked false (t.expr callee) k).next)
-  bare_expr (Binary loc operator left right) chained k =
-      two_same (P.Binary loc operator) (b.expr left false k) (b.expr right false (link_expr Unmarked false (t.expr left) k).next)
-  bare_expr (Assignment loc target_loc name value) chained k =
-      ap (P.Assignment loc assignment.Assign (P.IdentifierReference target_loc name)) (b.expr value false k)
-  bare_expr _ chained k = refl
+  bare_expr : (node : Node) (chain : Chain) (k : Numbers) → (link_expr Unmarked chain (build_expr t node) k).tree ≡ build_expr t node
+  bare_expr (Parenthesized loc inner) chain k = ap (P.Parenthesized loc) (operand_kept chain (link_expr Unmarked chain (t.expr inner) k) ∙ b.expr inner chain k)
+  bare_expr (Call loc callee arguments) chain k =
+      two_same (P.Call loc) (b.expr callee Alone k) (b.exprs arguments (link_expr Unmarked Alone (t.expr callee) k).next)
+  bare_expr (Binary loc operator left right) chain k =
+      two_same (P.Binary loc operator) (b.expr left Alone k) (b.expr right Alone (link_expr Unmarked Alone (t.expr left) k).next)
+  bare_expr (Assignment loc target_loc name value) chain k =
+      ap (P.Assignment loc assignment.Assign (P.IdentifierReference target_loc name)) (b.expr value Alone k)
+  bare_expr _ chain k = refl
 
   bare_exprs : (node : Node) (k : Numbers) → (link_exprs Unmarked (build_exprs t node) k).tree ≡ build_exprs t node
   bare_exprs (MoreExpressions first rest) k =
-      two_same P.more_expr (b.expr first false k) (b.exprs rest (link_expr Unmarked false (t.expr first) k).next)
+      two_same P.more_expr (b.expr first Alone k) (b.exprs rest (link_expr Unmarked Alone (t.expr first) k).next)
   bare_exprs _ k = refl
 
   bare_stmt_if : (place : Option ℕ) (k : Numbers) → (link_stmt_if Unmarked (stmt_if t place) k).tree ≡ stmt_if t place
@@ -46,12 +47,12 @@ module _ (t : Reader) (b : Bare t) where
   bare_stmt : (node : Node) (k : Numbers) → (link_stmt Unmarked (build_stmt t node) k).tree ≡ build_stmt t node
   bare_stmt (Block loc statements) k = ap (P.Block loc) (b.stmts statements k)
   bare_stmt (VariableDeclaration loc declarators) k = ap (P.VariableDeclaration loc variable.Var) (b.declarators declarators k)
-  bare_stmt (Expression loc expression) k = ap (P.Expression loc) (b.expr expression false k)
+  bare_stmt (Expression loc expression) k = ap (P.Expression loc) (b.expr expression Alone k)
   bare_stmt (If loc test holds fails) k =
-      let after = (link_expr Unmarked false (t.expr test) k).next in
-      three_same (P.If loc) (b.expr test false k) (b.stmt holds after) (bare_stmt_if fails (link_stmt Unmarked (t.stmt holds) after).next)
+      let after = (link_expr Unmarked Alone (t.expr test) k).next in
+      three_same (P.If loc) (b.expr test Alone k) (b.stmt holds after) (bare_stmt_if fails (link_stmt Unmarked (t.stmt holds) after).next)
   bare_stmt (While loc test body) k =
-      two_same (P.While loc) (b.expr test false k) (b.stmt body (link_expr Unmarked false (t.expr test) k).next)
+      two_same (P.While loc) (b.expr test Alone k) (b.stmt body (link_expr Unmarked Alone (t.expr test) k).next)
   bare_stmt _ k = refl
 
   bare_stmts : (node : Node) (k : Numbers) → (link_stmts Unmarked (build_stmts t node) k).tree ≡ build_stmts t node
@@ -64,19 +65,19 @@ module _ (t : Reader) (b : Bare t) where
       ap (P.more_declarator (P.MakeDeclarator loc (P.BindingIdentifier name_loc name) P.none_expr)) (b.declarators rest k)
   bare_declarators (MoreDeclarators loc name_loc name (Some place) rest) k =
       two_same (λ e. P.more_declarator (P.MakeDeclarator loc (P.BindingIdentifier name_loc name) (P.some_expr e)))
-      (b.expr place false k) (b.declarators rest (link_expr Unmarked false (t.expr place) k).next)
+      (b.expr place Alone k) (b.declarators rest (link_expr Unmarked Alone (t.expr place) k).next)
   bare_declarators _ k = refl
 
 bare_to : (depth : ℕ) (nodes : List Node) → Bare (reader_to depth nodes)
 bare_to zero nodes = record {
-  expr = λ i chained k. refl;
+  expr = λ i chain k. refl;
   exprs = λ i k. refl;
   stmt = λ i k. refl;
   stmts = λ i k. refl;
   declarators = λ i k. refl;
 }
 bare_to (suc depth) nodes = let b = bare_to depth nodes in record {
-  expr = λ i chained k. bare_expr (reader_to depth nodes) b (node_at nodes i) chained k;
+  expr = λ i chain k. bare_expr (reader_to depth nodes) b (node_at nodes i) chain k;
   exprs = λ i k. bare_exprs (reader_to depth nodes) b (node_at nodes i) k;
   stmt = λ i k. bare_stmt (reader_to depth nodes) b (node_at nodes i) k;
   stmts = λ i k. bare_stmts (reader_to depth nodes) b (node_at nodes i) k;

@@ -1,11 +1,11 @@
 -- The numbers of functions change no name that `var` declares.
-use Rattle.std.proofs.Common.{◌≡◌, ℕ, suc, Bool, true, false, List, [], ◌++◌, Option, Result, Ok, Err, IfOk, refl, ap, sym, ◌∙◌}
+use Rattle.std.proofs.Common.{◌≡◌, ℕ, Bool, true, false, List, [], ◌++◌, Option, Result, Ok, Err, IfOk, refl, ap, sym, ◌∙◌}
 use Rattle.js_tree.specs.declared.place.Loc.{Loc}
 use Rattle.js_tree.specs.declared.words.Identifier.{Identifier}
 use Rattle.js_tree.specs.Plain.{Stmt, Directive, Block, VariableDeclaration, Empty, Expression, If, DoWhile, While, For, ForIn, ForOf, Continue, Break, Return, Switch, Labelled, Throw, TryCatch, TryFinally, TryCatchFinally, Debugger, FunctionDeclaration, EnteredStmt, Stmts, no_stmt, more_stmt, MaybeStmt, none_stmt, some_stmt, entered_none}
 use Rattle.js_tree.specs.Plain.{Declarator, MakeDeclarator, Declarators, no_declarator, more_declarator, MaybeExpr, none_expr, some_expr}
 use Rattle.js_tree.specs.Plain.{ForInit, NoInit, InitDeclaration, InitExpression, ForTarget, TargetDeclaration, TargetExpression, Case, MakeCase, EnteredCase, Cases, no_case, more_case, Catch, MakeCatch}
-use Rattle.js_tree.specs.Linked.{Numbers, Unmarked, Uncounted, labelled, link_expr, link_expr_if, link_stmt, link_stmts, link_stmt_if, link_declarator, link_declarators, link_for_init, link_for_target, link_case, link_cases, link_catch}
+use Rattle.js_tree.specs.Linked.{Numbers, Unmarked, Uncounted, Alone, labelled, link_expr, link_expr_if, link_stmt, link_stmts, link_stmt_if, link_declarator, link_declarators, link_for_init, link_for_target, link_case, link_cases, link_catch}
 use Rattle.js_walk.specs.Part.{Part, AStmt, ADeclarator, AForInit, AForTarget, ACase, ACatch}
 use Rattle.js_walk.specs.Walk.{visit, within_stmt, within_stmt_if, within_declarator, within_declarators, within_expr_if, within_for_init, within_for_target, within_case, within_cases, within_catch}
 use Rattle.js_meaning.specs.Files.{once}
@@ -64,22 +64,22 @@ mutual
   stmt_same (Empty loc) k = refl
   stmt_same (Expression loc e) k = refl
   stmt_same (If loc e x y) k =
-      let after = (link_expr Unmarked false e k).next in
+      let after = (link_expr Unmarked Alone e k).next in
       joined (stmt_same x after) (stmt_if_same y (link_stmt Unmarked x after).next)
   stmt_same (DoWhile loc x e) k = joined (stmt_same x k) refl
-  stmt_same (While loc e x) k = stmt_same x (link_expr Unmarked false e k).next
+  stmt_same (While loc e x) k = stmt_same x (link_expr Unmarked Alone e k).next
   stmt_same (For loc init e f x) k =
       let i = (link_for_init Unmarked init k).next in
       let j = (link_expr_if Unmarked e i).next in
       joined (joined (joined (for_init_same init k) (expr_if_same e i)) (expr_if_same f j)) (stmt_same x (link_expr_if Unmarked f j).next)
   stmt_same (ForIn loc target e x) k =
-      joined (ap (λ names. names ++ []) (for_target_same target k)) (stmt_same x (link_expr Unmarked false e (link_for_target Unmarked target k).next).next)
+      joined (ap (λ names. names ++ []) (for_target_same target k)) (stmt_same x (link_expr Unmarked Alone e (link_for_target Unmarked target k).next).next)
   stmt_same (ForOf loc target e x) k =
-      joined (ap (λ names. names ++ []) (for_target_same target k)) (stmt_same x (link_expr Unmarked false e (link_for_target Unmarked target k).next).next)
+      joined (ap (λ names. names ++ []) (for_target_same target k)) (stmt_same x (link_expr Unmarked Alone e (link_for_target Unmarked target k).next).next)
   stmt_same (Continue loc name) k = refl
   stmt_same (Break loc name) k = refl
   stmt_same (Return loc e) k = expr_if_same e k
-  stmt_same (Switch loc e cases) k = cases_same cases 0 (link_expr Unmarked false e k).next
+  stmt_same (Switch loc e cases) k = cases_same cases 0 (link_expr Unmarked Alone e k).next
   stmt_same (Labelled loc name x) k = labelled_same loc name (link_stmt Unmarked x k).tree ∙ stmt_same x k
   stmt_same (Throw loc e) k = refl
   stmt_same (TryCatch loc xs catch) k = joined (stmts_same xs k) (catch_same catch (link_stmts Unmarked xs k).next)
@@ -109,7 +109,7 @@ mutual
   cases_same : (xs : Cases) (path : ℕ) (k : Numbers) →
       within_cases own_var declares (link_cases Unmarked Uncounted path xs k).tree false ≡ within_cases own_var declares xs false
   cases_same no_case path k = refl
-  cases_same (more_case x xs) path k = joined (case_same x k) (cases_same xs (suc path) (link_case Unmarked x k).next)
+  cases_same (more_case x xs) path k = joined (case_same x k) (cases_same xs path (link_case Unmarked x k).next)
 
   catch_same : (x : Catch) (k : Numbers) →
       let x' = (link_catch Unmarked x k).tree in

@@ -1,5 +1,5 @@
 -- The marks of a linked tree are those of its constructs.
-use Rattle.std.proofs.Common.{◌≡◌, ℕ, suc, ◌+◌, Bool, true, false, List, [], ◌∷◌, ◌++◌, length, Option, Some, None, refl, sym, ap, ◌∙◌, arith, append_assoc}
+use Rattle.std.proofs.Common.{◌≡◌, ℕ, suc, ◌+◌, Bool, true, false, List, [], ◌∷◌, ◌++◌, length, Option, Some, None, refl, sym, ap, ◌∙◌, arith, append_assoc, append-nil}
 use Rattle.js_tree.specs.declared.construct.BranchKind.{BranchKind}
 use Rattle.js_tree.specs.declared.construct.Construct.{Construct}
 use Rattle.js_tree.specs.declared.construct.Construct.TheVariants as construct
@@ -34,13 +34,14 @@ use Rattle.js_tree.specs.Plain.{Declarators, no_declarator, more_declarator}
 use Rattle.js_tree.specs.Plain.{Cases, no_case, more_case}
 use Rattle.js_tree.specs.Plain.{MakeFile}
 use Rattle.js_tree.specs.declared.construct.BranchKind.TheVariants as branch_kind
-use Rattle.js_tree.specs.Places.{bare_place, stmt_place, stmt_if_place, case_place, case_places, leaf_places, body_place, braced_place, concise_place}
+use Rattle.js_tree.specs.Places.{bare_place, expr_place, stmt_place, stmt_if_place, property_place, param_place, declarator_place, case_place, body_place, braced_place, concise_place}
+use Rattle.js_tree.specs.declared.hint.Hint.TheVariants as hint
+use Rattle.js_tree.specs.Hints.{Heed, Ignored, Heeding, heed, heed_arm, heed_comments, heeded_place, path_in, case_paths, leaf_paths}
 use Rattle.js_tree.specs.Marked.{is_mark, one_if}
 use Rattle.js_tree.specs.Unmarked.{unmarked_expr, unmarked_stmt, unmarked_property, unmarked_property_key, unmarked_concise_body, unmarked_for_init, unmarked_for_target, unmarked_template_part, unmarked_function, unmarked_function_body, unmarked_param, unmarked_declarator, unmarked_case, unmarked_catch, unmarked_expr_if, unmarked_stmt_if, unmarked_exprs, unmarked_template_parts, unmarked_properties, unmarked_params, unmarked_stmts, unmarked_declarators, unmarked_cases}
-use Rattle.js_tree.specs.Linked.{Counts, Numbers, Linked, Marked, Marks, Uncounted, Counted, kept, made, two, three, four, mark, marks, after_marks, after_one, after_code, branched, counted_stmt, counted_expr, function_place, enter_expr, enter_stmt, enter_case, enter_arm, enter_body, enter_concise_body, enter_leaves, labelled, link_expr, link_stmt, link_property, link_property_key, link_concise_body, link_for_init, link_for_target, link_template_part, link_function, link_function_body, link_param, link_declarator, link_case, link_catch, link_expr_if, link_stmt_if, link_exprs, link_template_parts, link_properties, link_params, link_stmts, link_declarators, link_cases}
-use Rattle.js_walk.specs.Part.{AnExpr, AStmt, AProperty, APropertyKey, AConciseBody, AForInit, AForTarget, ATemplatePart, AFunction, AFunctionBody, AParam, ADeclarator, ACase, ACatch}
-use Rattle.js_walk.specs.Walk.{visit, within_expr, within_stmt, within_property, within_property_key, within_concise_body, within_for_init, within_for_target, within_template_part, within_function, within_function_body, within_param, within_declarator, within_case, within_catch, within_expr_if, within_stmt_if, within_exprs, within_template_parts, within_properties, within_params, within_stmts, within_declarators, within_cases}
-use Rattle.js_walk.specs.Constructs.{own_construct, chained_in, all_named, number_after, counted, counted_function, branch, if_branch}
+use Rattle.js_tree.specs.Linked.{Counts, Numbers, Linked, Marking, Within, Marks, Uncounted, Counted, kept, made, two, three, four, mark, marks, marks_at, after_marks, after_marks_at, after_one, after_code, branched, counted_stmt, counted_expr, function_place, enter_expr, enter_stmt, enter_case, enter_arm, enter_body, enter_concise_body, operand, Chain, Alone, Operand, by_path, past_path, past_leaves, at_expr, at_stmt, at_property, at_param, at_declarator, labelled, link_expr, link_stmt, link_property, link_property_key, link_concise_body, link_for_init, link_for_target, link_template_part, link_function, link_function_body, link_param, link_declarator, link_case, link_catch, link_expr_if, link_stmt_if, link_exprs, link_template_parts, link_properties, link_params, link_stmts, link_declarators, link_cases}
+use Rattle.js_walk.specs.Constructs.{all_named, number_after, counted, counted_function, branch, if_paths, expr_paths}
+use Rattle.js_meaning.proofs.Standing.{walk_expr, walk_stmt, walk_property, walk_param, walk_declarator, walk_concise_body, walk_property_key, walk_for_init, walk_for_target, walk_template_part, walk_function, walk_function_body, walk_case, walk_catch, walk_expr_if, walk_stmt_if, walk_exprs, walk_template_parts, walk_properties, walk_params, walk_stmts, walk_declarators, walk_cases, braced_unmarked, concise_unmarked, stmt_unmarked, expr_unmarked, property_unmarked, param_unmarked, declarator_unmarked, case_unmarked, expr_paths_same, pair_same, if_paths_same, case_paths_same, chain_paths_same, counted_same, labelled_places, bare_linked, braced_linked, concise_linked, case_linked, stmt_if_linked}
 
 pub many_append : (such : PlacedMark → Bool) (xs ys : List PlacedMark) → how_many such (xs ++ ys) ≡ how_many such xs + how_many such ys
 many_append such [] ys = omega arith
@@ -74,229 +75,36 @@ paths_append such file number path (x ∷ xs) ys =
     let d = ap (λ p. how_many such (paths_from file number p ys)) e in
     omega (arith, r, d)
 
--- the leaves of a chain have a mark each, besides those in them
-pub leaves_marked : (such : PlacedMark → Bool) (file number path : ℕ) (e : Expr) →
-    how_many such (entered_expr (enter_leaves (Counted file construct_kind.Branch number) path e))
-    ≡ how_many such (paths_from file number path (leaf_places e)) + how_many such (entered_expr e)
-leaves_marked such file number path (Logical loc operator e f) =
-    let b = Counted file construct_kind.Branch number in
-    let next = path + length (leaf_places e) in
-    let x = leaves_marked such file number path e in
-    let y = leaves_marked such file number next f in
-    let p = paths_append such file number path (leaf_places e) (leaf_places f) in
-    let q = many_append such (entered_expr (enter_leaves b path e)) (entered_expr (enter_leaves b next f)) in
-    let r = many_append such (entered_expr e) (entered_expr f) in
-    omega (arith, x, y, p, q, r)
-leaves_marked such file number path (Parenthesized loc e) = leaves_marked such file number path e
-leaves_marked such file number path _ = omega arith
-
 -- what is counted somewhere has its number where it is in the list
 
-pub after_counted : (file : ℕ) (loc : Option Loc) (k : Numbers) → after k.counts (counted loc) ≡ (after_marks (Marked file) construct_kind.Statement loc k).counts
-after_counted file None k = refl
-after_counted file (Some loc) k = refl
+pub after_counted : (loc : Option Loc) (k : Numbers) → after k.counts (counted loc) ≡ (after_marks_at construct_kind.Statement loc k).counts
+after_counted None k = refl
+after_counted (Some loc) k = refl
 
-pub after_branch : (file : ℕ) (kind : BranchKind) (loc : Option Loc) (paths : List (Option Loc)) (k : Numbers) →
-    after k.counts (branch kind loc paths) ≡ (after_marks (Marked file) construct_kind.Branch loc k).counts
-after_branch file kind None paths k = refl
-after_branch file kind (Some loc) paths k = refl
+pub after_branch : (kind : BranchKind) (loc : Option Loc) (paths : List (Option Loc)) (k : Numbers) →
+    after k.counts (branch kind loc paths) ≡ (after_marks_at construct_kind.Branch loc k).counts
+after_branch kind None paths k = refl
+after_branch kind (Some loc) paths k = refl
 
 -- a name with a place
 abbrev identifier : List ℕ → Option Loc → Identifier
 identifier name loc = record { name = name; loc = loc }
 
-pub after_function : (file : ℕ) (loc : Option Loc) (name : Option Identifier) (body : Option Loc) (k : Numbers) →
-    after k.counts (counted_function loc name body) ≡ (after_marks (Marked file) construct_kind.Function (function_place loc name body) k).counts
-after_function file None None None k = refl
-after_function file None None (Some body) k = refl
-after_function file None (Some name) body k = refl
-after_function file (Some loc) None None k = refl
-after_function file (Some loc) None (Some body) k = refl
-after_function file (Some loc) (Some name) body k = by_name name.loc body
+pub after_function : (file : ℕ) (h : Heed) (loc : Option Loc) (name : Option Identifier) (body : Option Loc) (k : Numbers) →
+    after k.counts (counted_function (heeded_place h loc) name body) ≡ (after_marks (Within file h) construct_kind.Function (function_place loc name body) k).counts
+after_function file Ignored loc name body k = refl
+after_function file (Heeding hints) None None None k = refl
+after_function file (Heeding hints) None None (Some body) k = refl
+after_function file (Heeding hints) None (Some name) body k = refl
+after_function file (Heeding hints) (Some loc) None None k = refl
+after_function file (Heeding hints) (Some loc) None (Some body) k = refl
+after_function file (Heeding hints) (Some loc) (Some name) body k = by_name name.loc body
   where
     by_name : (declared body : Option Loc) → after k.counts (counted_function (Some loc) (Some (identifier name.name declared)) body)
-        ≡ (after_marks (Marked file) construct_kind.Function (function_place (Some loc) (Some (identifier name.name declared)) body) k).counts
+        ≡ (after_marks_at construct_kind.Function (function_place (Some loc) (Some (identifier name.name declared)) body) k).counts
     by_name None body = refl
     by_name (Some declared) None = refl
     by_name (Some declared) (Some body) = refl
-
--- ---- what the walk gives of a part
-
-abbrev walk_expr : Bool → Expr → List Construct
-walk_expr chained e = visit own_construct chained_in chained (AnExpr e) (within_expr own_construct chained_in e)
-
-abbrev walk_property : Property → List Construct
-walk_property x = visit own_construct chained_in false (AProperty x) (within_property own_construct chained_in x)
-
-abbrev walk_property_key : PropertyKey → List Construct
-walk_property_key x = visit own_construct chained_in false (APropertyKey x) (within_property_key own_construct chained_in x)
-
-abbrev walk_concise_body : ConciseBody → List Construct
-walk_concise_body x = visit own_construct chained_in false (AConciseBody x) (within_concise_body own_construct chained_in x)
-
-abbrev walk_for_init : ForInit → List Construct
-walk_for_init x = visit own_construct chained_in false (AForInit x) (within_for_init own_construct chained_in x)
-
-abbrev walk_for_target : ForTarget → List Construct
-walk_for_target x = visit own_construct chained_in false (AForTarget x) (within_for_target own_construct chained_in x)
-
-abbrev walk_template_part : TemplatePart → List Construct
-walk_template_part x = visit own_construct chained_in false (ATemplatePart x) (within_template_part own_construct chained_in x)
-
-abbrev walk_function : Function → List Construct
-walk_function x = visit own_construct chained_in false (AFunction x) (within_function own_construct chained_in x)
-
-abbrev walk_function_body : FunctionBody → List Construct
-walk_function_body x = visit own_construct chained_in false (AFunctionBody x) (within_function_body own_construct chained_in x)
-
-abbrev walk_param : Param → List Construct
-walk_param x = visit own_construct chained_in false (AParam x) (within_param own_construct chained_in x)
-
-abbrev walk_declarator : Declarator → List Construct
-walk_declarator x = visit own_construct chained_in false (ADeclarator x) (within_declarator own_construct chained_in x)
-
-abbrev walk_case : Case → List Construct
-walk_case x = visit own_construct chained_in false (ACase x) (within_case own_construct chained_in x)
-
-abbrev walk_catch : Catch → List Construct
-walk_catch x = visit own_construct chained_in false (ACatch x) (within_catch own_construct chained_in x)
-
-abbrev walk_stmt : Stmt → List Construct
-walk_stmt x = visit own_construct chained_in false (AStmt x) (within_stmt own_construct chained_in x)
-
-abbrev walk_expr_if : MaybeExpr → List Construct
-walk_expr_if xs = within_expr_if own_construct chained_in xs false
-
-abbrev walk_stmt_if : MaybeStmt → List Construct
-walk_stmt_if xs = within_stmt_if own_construct chained_in xs false
-
-abbrev walk_exprs : Exprs → List Construct
-walk_exprs xs = within_exprs own_construct chained_in xs false
-
-abbrev walk_template_parts : TemplateParts → List Construct
-walk_template_parts xs = within_template_parts own_construct chained_in xs false
-
-abbrev walk_properties : Properties → List Construct
-walk_properties xs = within_properties own_construct chained_in xs false
-
-abbrev walk_params : Params → List Construct
-walk_params xs = within_params own_construct chained_in xs false
-
-abbrev walk_stmts : Stmts → List Construct
-walk_stmts xs = within_stmts own_construct chained_in xs false
-
-abbrev walk_declarators : Declarators → List Construct
-walk_declarators xs = within_declarators own_construct chained_in xs false
-
-abbrev walk_cases : Cases → List Construct
-walk_cases xs = within_cases own_construct chained_in xs false
-
--- ---- where the parts of a tree without its marks stand
-
-bare_unmarked : (e : Expr) → bare_place (unmarked_expr e) ≡ bare_place e
-bare_unmarked (Parenthesized loc e) = bare_unmarked e
-bare_unmarked (Entered n e) = bare_unmarked e
-bare_unmarked _ = refl
-
-braced_unmarked : (b : FunctionBody) → braced_place (unmarked_function_body b) ≡ braced_place b
-braced_unmarked (MakeFunctionBody loc xs) = refl
-braced_unmarked (EnteredBody n b) = braced_unmarked b
-
-concise_unmarked : (b : ConciseBody) → concise_place (unmarked_concise_body b) ≡ concise_place b
-concise_unmarked (ExpressionBody e) = bare_unmarked e
-concise_unmarked (BlockBody b) = braced_unmarked b
-
-stmt_unmarked : (x : Stmt) → stmt_place (unmarked_stmt x) ≡ stmt_place x
-stmt_unmarked (EnteredStmt n x) = stmt_unmarked x
-stmt_unmarked _ = refl
-
-stmt_if_unmarked : (y : MaybeStmt) → stmt_if_place (unmarked_stmt_if y) ≡ stmt_if_place y
-stmt_if_unmarked none_stmt = refl
-stmt_if_unmarked (some_stmt x) = stmt_unmarked x
-stmt_if_unmarked (entered_none n) = refl
-
--- ---- where the parts of a linked tree stand
-
-bare_entered : (b : Marks) (path : ℕ) (e : Expr) → bare_place (enter_expr b path e) ≡ bare_place e
-bare_entered Uncounted path e = refl
-bare_entered (Counted file kind number) path e = refl
-
-stmt_entered : (b : Marks) (path : ℕ) (x : Stmt) → stmt_place (enter_stmt b path x) ≡ stmt_place x
-stmt_entered Uncounted path x = refl
-stmt_entered (Counted file kind number) path x = refl
-
-labelled_place : (loc : Option Loc) (name : Identifier) (x : Stmt) → stmt_place (labelled loc name x) ≡ loc
-labelled_place loc name (EnteredStmt n x) = labelled_place loc name x
-labelled_place loc name _ = refl
-
-labelled_places : (loc : Option Loc) (name : Identifier) (x : Stmt) → places_of (labelled loc name x) ≡ with_place loc (places_of x)
-labelled_places loc name (EnteredStmt n x) = labelled_places loc name x
-labelled_places loc name _ = refl
-
-bare_linked : (file : ℕ) (chained : Bool) (e : Expr) (k : Numbers) → bare_place (link_expr (Marked file) chained e k).tree ≡ bare_place e
-bare_linked file true (Logical loc operator e f) k = refl
-bare_linked file false (Logical loc operator e f) k = refl
-bare_linked file chained (Parenthesized loc e) k = bare_linked file chained e k
-bare_linked file chained (Entered n e) k = bare_linked file chained e k
-bare_linked file chained _ k = refl
-
-braced_linked : (file : ℕ) (b : FunctionBody) (k : Numbers) → braced_place (link_function_body (Marked file) b k).tree ≡ braced_place b
-braced_linked file (MakeFunctionBody loc xs) k = refl
-braced_linked file (EnteredBody n b) k = braced_linked file b k
-
-concise_linked : (file : ℕ) (b : ConciseBody) (k : Numbers) → concise_place (link_concise_body (Marked file) b k).tree ≡ concise_place b
-concise_linked file (ExpressionBody e) k =
-    let loc = bare_place e in let j = after_marks (Marked file) construct_kind.Statement loc k in
-    bare_entered (marks (Marked file) construct_kind.Statement loc k) 0 (link_expr (Marked file) false e j).tree ∙ bare_linked file false e j
-concise_linked file (BlockBody b) k = braced_linked file b k
-
-case_linked : (file : ℕ) (x : Case) (k : Numbers) → case_place (link_case (Marked file) x k).tree ≡ case_place (unmarked_case x)
-case_linked file (MakeCase loc e xs) k = refl
-case_linked file (EnteredCase n x) k = case_linked file x k
-
-counted_place : (file : ℕ) (loc : Option Loc) (f : Numbers → Linked Stmt) (k : Numbers) → ((j : Numbers) → stmt_place (f j).tree ≡ loc) →
-    stmt_place (counted_stmt (Marked file) loc f k).tree ≡ loc
-counted_place file loc f k e = let j = after_marks (Marked file) construct_kind.Statement loc k in
-    stmt_entered (marks (Marked file) construct_kind.Statement loc k) 0 (f j).tree ∙ e j
-
-stmt_linked : (file : ℕ) (x : Stmt) (k : Numbers) → stmt_place (link_stmt (Marked file) x k).tree ≡ stmt_place x
-stmt_linked file (Directive loc spelled) k = refl
-stmt_linked file (Block loc xs) k = refl
-stmt_linked file (VariableDeclaration loc kind declarators) k = refl
-stmt_linked file (Empty loc) k = refl
-stmt_linked file (Expression loc e) k = counted_place file loc (λ k. made (Expression loc) (link_expr (Marked file) false e k)) k (λ j. refl)
-stmt_linked file (If loc e x y) k = counted_place file loc (λ k. branched (Marked file) loc (λ b k. three (λ e' x' y'. If loc e' (enter_stmt b 0 x') (enter_arm b 1 y')) (link_expr (Marked file) false e k) (link_stmt (Marked file) x) (link_stmt_if (Marked file) y)) k) k (λ j. refl)
-stmt_linked file (DoWhile loc x e) k = counted_place file loc (λ k. two (DoWhile loc) (link_stmt (Marked file) x k) (link_expr (Marked file) false e)) k (λ j. refl)
-stmt_linked file (While loc e x) k = counted_place file loc (λ k. two (While loc) (link_expr (Marked file) false e k) (link_stmt (Marked file) x)) k (λ j. refl)
-stmt_linked file (For loc init e f x) k = counted_place file loc (λ k. four (For loc) (link_for_init (Marked file) init k) (link_expr_if (Marked file) e) (link_expr_if (Marked file) f) (link_stmt (Marked file) x)) k (λ j. refl)
-stmt_linked file (ForIn loc target e x) k = counted_place file loc (λ k. three (ForIn loc) (link_for_target (Marked file) target k) (link_expr (Marked file) false e) (link_stmt (Marked file) x)) k (λ j. refl)
-stmt_linked file (ForOf loc target e x) k = counted_place file loc (λ k. three (ForOf loc) (link_for_target (Marked file) target k) (link_expr (Marked file) false e) (link_stmt (Marked file) x)) k (λ j. refl)
-stmt_linked file (Continue loc name) k = counted_place file loc (λ k. kept (Continue loc name) k) k (λ j. refl)
-stmt_linked file (Break loc name) k = counted_place file loc (λ k. kept (Break loc name) k) k (λ j. refl)
-stmt_linked file (Return loc e) k = counted_place file loc (λ k. made (Return loc) (link_expr_if (Marked file) e k)) k (λ j. refl)
-stmt_linked file (Switch loc e cases) k = counted_place file loc (λ k. branched (Marked file) loc (λ b k. two (Switch loc) (link_expr (Marked file) false e k) (link_cases (Marked file) b 0 cases)) k) k (λ j. refl)
-stmt_linked file (Labelled loc name x) k = counted_place file loc (λ k. made (labelled loc name) (link_stmt (Marked file) x k)) k (λ j. labelled_place loc name (link_stmt (Marked file) x j).tree)
-stmt_linked file (Throw loc e) k = counted_place file loc (λ k. made (Throw loc) (link_expr (Marked file) false e k)) k (λ j. refl)
-stmt_linked file (TryCatch loc xs catch) k = counted_place file loc (λ k. two (TryCatch loc) (link_stmts (Marked file) xs k) (link_catch (Marked file) catch)) k (λ j. refl)
-stmt_linked file (TryFinally loc xs ys) k = counted_place file loc (λ k. two (TryFinally loc) (link_stmts (Marked file) xs k) (link_stmts (Marked file) ys)) k (λ j. refl)
-stmt_linked file (TryCatchFinally loc xs catch ys) k = counted_place file loc (λ k. three (TryCatchFinally loc) (link_stmts (Marked file) xs k) (link_catch (Marked file) catch) (link_stmts (Marked file) ys)) k (λ j. refl)
-stmt_linked file (Debugger loc) k = counted_place file loc (λ k. kept (Debugger loc) k) k (λ j. refl)
-stmt_linked file (FunctionDeclaration loc name function) k = refl
-stmt_linked file (EnteredStmt n x) k = stmt_linked file x k
-
-stmt_if_linked : (file : ℕ) (y : MaybeStmt) (k : Numbers) → stmt_if_place (link_stmt_if (Marked file) y k).tree ≡ stmt_if_place y
-stmt_if_linked file none_stmt k = refl
-stmt_if_linked file (some_stmt x) k = stmt_linked file x k
-stmt_if_linked file (entered_none n) k = refl
-
--- a linked operand of a chain has the leaves that it had
-leaves_linked : (file : ℕ) (e : Expr) (k : Numbers) → leaf_places (link_expr (Marked file) true e k).tree ≡ leaf_places (unmarked_expr e)
-leaves_linked file (Logical loc operator e f) k =
-    ap (λ (l : List (Option Loc)). l ++ leaf_places (link_expr (Marked file) true f (link_expr (Marked file) true e k).next).tree) (leaves_linked file e k)
-    ∙ ap (λ (l : List (Option Loc)). leaf_places (unmarked_expr e) ++ l) (leaves_linked file f (link_expr (Marked file) true e k).next)
-leaves_linked file (Parenthesized loc e) k = leaves_linked file e k
-leaves_linked file (Entered n e) k = leaves_linked file e k
-leaves_linked file _ k = refl
 
 -- ---- the marks of what is entered
 
@@ -333,35 +141,68 @@ many_concise : (such : PlacedMark → Bool) (b : Marks) (x : ConciseBody) {p : O
 many_concise such b (ExpressionBody x) e = many_expr such b 0 x e
 many_concise such b (BlockBody x) e = many_body such b x e
 
+-- the marks of a branch, or none
+abbrev IsBranch : Marks → Type 0
+IsBranch Uncounted = Unit {0}
+IsBranch (Counted file construct_kind.Branch number) = Unit {0}
+IsBranch (Counted file kind number) = ⊥
+
+is_branch : (file : ℕ) (h : Heed) (loc : Option Loc) (k : Numbers) → IsBranch (by_path (Within file h) (marks_at file construct_kind.Branch loc k))
+is_branch file Ignored loc k = tt
+is_branch file (Heeding hints) None k = tt
+is_branch file (Heeding hints) (Some loc) k = tt
+
 -- the statement after a test
-many_arm : (file : ℕ) (such : PlacedMark → Bool) (arm loc : Option Loc) (k : Numbers) (path : ℕ) (x : Stmt) →
-    let b = marks (Marked file) construct_kind.Branch loc k in
+many_arm : (file : ℕ) (such : PlacedMark → Bool) (arm loc : Option Loc) (k : Numbers) (h : Heed) (path : ℕ) (x : Stmt) →
+    let b = by_path (Within file h) (marks_at file construct_kind.Branch loc k) in
     how_many such (entered_stmt arm (places_of (enter_stmt b path x)) (enter_stmt b path x)) ≡ how_many such (entry_of b path arm) + how_many such (entered_stmt arm (places_of x) x)
-many_arm file such arm None k path x = omega arith
-many_arm file such arm (Some loc) k path x = omega arith
+many_arm file such arm loc k Ignored path x = omega arith
+many_arm file such arm None k (Heeding hints) path x = omega arith
+many_arm file such arm (Some loc) k (Heeding hints) path x = omega arith
 
 -- an arm that may be missing
-many_else : (file : ℕ) (such : PlacedMark → Bool) (loc : Option Loc) (k : Numbers) (path : ℕ) (y : MaybeStmt) (j : Numbers) {p : Option Loc} →
-    stmt_if_place (link_stmt_if (Marked file) y j).tree ≡ p →
-    let b = marks (Marked file) construct_kind.Branch loc k in
-    how_many such (entered_stmt_if (enter_arm b path (link_stmt_if (Marked file) y j).tree)) ≡ how_many such (entry_of b path p) + how_many such (entered_stmt_if (link_stmt_if (Marked file) y j).tree)
-many_else file such None k path y j e = omega arith
-many_else file such (Some loc) k path none_stmt j e = let h = entry_there such (marks (Marked file) construct_kind.Branch (Some loc) k) path e in omega (arith, h)
-many_else file such (Some loc) k path (some_stmt x) j e = let h = entry_there such (marks (Marked file) construct_kind.Branch (Some loc) k) path e in omega (arith, h)
-many_else file such (Some loc) k path (entered_none n) j e = let h = entry_there such (marks (Marked file) construct_kind.Branch (Some loc) k) path e in omega (arith, h)
-
-leaves_uncounted : (path : ℕ) (e : Expr) → entered_expr (enter_leaves Uncounted path e) ≡ entered_expr e
-leaves_uncounted path (Logical loc operator e f) =
-    ap (λ (l : List PlacedMark). l ++ entered_expr (enter_leaves Uncounted (path + length (leaf_places e)) f)) (leaves_uncounted path e)
-    ∙ ap (λ (l : List PlacedMark). entered_expr e ++ l) (leaves_uncounted (path + length (leaf_places e)) f)
-leaves_uncounted path (Parenthesized loc e) = leaves_uncounted path e
-leaves_uncounted path _ = refl
+many_else : (such : PlacedMark → Bool) (m : Marking) (b : Marks) (path : ℕ) (y : MaybeStmt) (j : Numbers) → {p : Option Loc} → IsBranch b →
+    stmt_if_place (link_stmt_if m y j).tree ≡ p →
+    how_many such (entered_stmt_if (enter_arm b path (link_stmt_if m y j).tree)) ≡ how_many such (entry_of b path p) + how_many such (entered_stmt_if (link_stmt_if m y j).tree)
+many_else such m Uncounted path y j i e = omega arith
+many_else such m (Counted file construct_kind.Statement number) path y j i e = absurd i
+many_else such m (Counted file construct_kind.Function number) path y j i e = absurd i
+many_else such m (Counted file construct_kind.Branch number) path none_stmt j i e = let h = entry_there such (Counted file construct_kind.Branch number) path e in omega (arith, h)
+many_else such m (Counted file construct_kind.Branch number) path (some_stmt x) j i e = let h = entry_there such (Counted file construct_kind.Branch number) path e in omega (arith, h)
+many_else such m (Counted file construct_kind.Branch number) path (entered_none n) j i e = let h = entry_there such (Counted file construct_kind.Branch number) path e in omega (arith, h)
 
 -- the marks before a label enter what they would enter behind it
 marks_labelled : (arm : Option Loc) (places : List Loc) (loc : Option Loc) (name : Identifier) (x : Stmt) → entered_stmt arm places (labelled loc name x) ≡ entered_stmt arm places x
 marks_labelled arm places loc name (EnteredStmt n x) =
     ap (λ (l : List PlacedMark). placed n (place_by n.kind arm places) ∷ l) (marks_labelled arm (places_after n.kind places) loc name x)
 marks_labelled arm places loc name _ = refl
+
+-- what is taken out has no marks before it
+ignored_places : (file : ℕ) (x : Stmt) (k : Numbers) (arm : Option Loc) (places others : List Loc) →
+    entered_stmt arm places (link_stmt (Within file Ignored) x k).tree ≡ entered_stmt arm others (link_stmt (Within file Ignored) x k).tree
+ignored_places file (Labelled loc name x) k arm places others = let t = (link_stmt (Within file Ignored) x k).tree in
+    marks_labelled arm places loc name t ∙ ignored_places file x k arm places others ∙ sym (marks_labelled arm others loc name t)
+ignored_places file (EnteredStmt n x) k arm places others = ignored_places file x k arm places others
+ignored_places file _ k arm places others = refl
+
+-- the paths of one list after another's
+paths_of_append : (such : PlacedMark → Bool) (b : Marks) (path : ℕ) (xs ys : List (Option Loc)) →
+    how_many such (paths_of b path (xs ++ ys)) ≡ how_many such (paths_of b path xs) + how_many such (paths_of b (path + length xs) ys)
+paths_of_append such Uncounted path xs ys = omega arith
+paths_of_append such (Counted file kind number) path [] ys = let e : path + 0 ≡ path = omega arith in
+    ap (λ p. how_many such (paths_of (Counted file kind number) p ys)) (sym e) ∙ omega arith
+paths_of_append such (Counted file kind number) path (x ∷ xs) ys =
+    let e : suc path + length xs ≡ path + suc (length xs) = omega arith in
+    let r = paths_of_append such (Counted file kind number) (suc path) xs ys in
+    let d = ap (λ p. how_many such (paths_of (Counted file kind number) p ys)) e in
+    omega (arith, r, d)
+
+-- the path of a part, and those after it
+part_paths : (such : PlacedMark → Bool) (file : ℕ) (h : Heed) (b : Marks) (path : ℕ) (p : Option Loc) (rest : List (Option Loc)) →
+    how_many such (paths_of b path (path_in h p ++ rest)) ≡ how_many such (entry_of (by_path (Within file h) b) path p) + how_many such (paths_of b (past_path (Within file h) path) rest)
+part_paths such file Ignored b path p rest = omega arith
+part_paths such file (Heeding hints) Uncounted path p rest = omega arith
+part_paths such file (Heeding hints) (Counted g kind number) path p rest = omega arith
 
 -- ---- marks and constructs
 
@@ -417,274 +258,425 @@ module _ (file : ℕ) where
         omega (arith, p, q, r, s, t);
   }
 
+  agrees_entry : {en em ms : List PlacedMark} {c d : Counts} {xs : List Construct} → ((such : PlacedMark → Bool) → how_many such en ≡ how_many such em) → Agrees en ms d c xs → Agrees em ms d c xs
+  agrees_entry e a = record { next = a.next; same = λ such. let p = e such in let q = a.same such in omega (arith, p, q) }
+
   -- the list has an entry of a construct for each of its paths
 
-  entry_counted : (loc : Option Loc) (k : Numbers) (such : PlacedMark → Bool) → how_many such (entry_of (marks (Marked file) construct_kind.Statement loc k) 0 loc) ≡ how_many such (numbered file k.counts (counted loc))
-  entry_counted None k such = refl
-  entry_counted (Some loc) k such = refl
-
-  entry_default : (loc p : Option Loc) (k : Numbers) (such : PlacedMark → Bool) →
-      how_many such (entry_of (marks (Marked file) construct_kind.Branch loc k) 0 p) ≡ how_many such (numbered file k.counts (branch branch_kind.Default loc (p ∷ [])))
-  entry_default None p k such = refl
-  entry_default (Some loc) p k such = refl
-
-  entry_branch : (kind : BranchKind) (loc p q : Option Loc) (k : Numbers) (such : PlacedMark → Bool) →
-      how_many such (entry_of (marks (Marked file) construct_kind.Branch loc k) 0 p ++ entry_of (marks (Marked file) construct_kind.Branch loc k) 1 q)
-      ≡ how_many such (numbered file k.counts (branch kind loc (p ∷ q ∷ [])))
-  entry_branch kind None p q k such = refl
-  entry_branch kind (Some loc) p q k such = refl
+  entry_counted : (h : Heed) (loc : Option Loc) (k : Numbers) (such : PlacedMark → Bool) →
+      how_many such (entry_of (marks (Within file h) construct_kind.Statement loc k) 0 loc) ≡ how_many such (numbered file k.counts (counted (heeded_place h loc)))
+  entry_counted Ignored loc k such = refl
+  entry_counted (Heeding hints) None k such = refl
+  entry_counted (Heeding hints) (Some loc) k such = refl
 
   paths_are : (such : PlacedMark → Bool) (number path : ℕ) (places : List (Option Loc)) →
       how_many such (paths_of (Counted file construct_kind.Branch number) path places) ≡ how_many such (paths_from file number path places ++ [])
   paths_are such number path [] = refl
   paths_are such number path (x ∷ xs) = ap (λ n. one_if (such (placed (mark file construct_kind.Branch number path) x)) + n) (paths_are such number (suc path) xs)
 
-  entry_switch : (loc : Option Loc) (places : List (Option Loc)) (k : Numbers) (such : PlacedMark → Bool) →
-      how_many such (paths_of (marks (Marked file) construct_kind.Branch loc k) 0 places) ≡ how_many such (numbered file k.counts (branch branch_kind.Switch loc places))
-  entry_switch None places k such = refl
-  entry_switch (Some loc) places k such = paths_are such k.counts.branches 0 places
+  entry_branch : (kind : BranchKind) (loc : Option Loc) (places : List (Option Loc)) (k : Numbers) (such : PlacedMark → Bool) →
+      how_many such (paths_of (marks_at file construct_kind.Branch loc k) 0 places) ≡ how_many such (numbered file k.counts (branch kind loc places))
+  entry_branch kind None places k such = refl
+  entry_branch kind (Some loc) places k such = paths_are such k.counts.branches 0 places
 
-  entry_function : (loc : Option Loc) (name : Option Identifier) (body : Option Loc) (k : Numbers) (such : PlacedMark → Bool) →
-      how_many such (entry_of (marks (Marked file) construct_kind.Function (function_place loc name body) k) 0 body) ≡ how_many such (numbered file k.counts (counted_function loc name body))
-  entry_function None None None k such = refl
-  entry_function None None (Some body) k such = refl
-  entry_function None (Some name) body k such = refl
-  entry_function (Some loc) None None k such = refl
-  entry_function (Some loc) None (Some body) k such = refl
-  entry_function (Some loc) (Some name) body k such = by_name name.loc body
+  -- a branch of one part, or two
+  entry_one : (b : Marks) (p : Option Loc) (h : Heed) (such : PlacedMark → Bool) → how_many such (entry_of (by_path (Within file h) b) 0 p) ≡ how_many such (paths_of b 0 (path_in h p))
+  entry_one b p Ignored such = none b
     where
-      by_name : (declared body : Option Loc) → how_many such (entry_of (marks (Marked file) construct_kind.Function (function_place (Some loc) (Some (identifier name.name declared)) body) k) 0 body)
+      none : (b : Marks) → how_many such [] ≡ how_many such (paths_of b 0 [])
+      none Uncounted = refl
+      none (Counted g kind number) = refl
+  entry_one Uncounted p (Heeding hints) such = refl
+  entry_one (Counted g kind number) p (Heeding hints) such = refl
+
+  entry_two : (b : Marks) (p q : Option Loc) (h g : Heed) (such : PlacedMark → Bool) →
+      how_many such (entry_of (by_path (Within file h) b) 0 p ++ entry_of (by_path (Within file g) b) (past_path (Within file h) 0) q) ≡ how_many such (paths_of b 0 (path_in h p ++ path_in g q))
+  entry_two Uncounted p q Ignored Ignored such = refl
+  entry_two Uncounted p q Ignored (Heeding i) such = refl
+  entry_two Uncounted p q (Heeding i) Ignored such = refl
+  entry_two Uncounted p q (Heeding i) (Heeding j) such = refl
+  entry_two (Counted f kind number) p q Ignored Ignored such = refl
+  entry_two (Counted f kind number) p q Ignored (Heeding i) such = refl
+  entry_two (Counted f kind number) p q (Heeding i) Ignored such = refl
+  entry_two (Counted f kind number) p q (Heeding i) (Heeding j) such = refl
+
+  entry_function : (h : Heed) (loc : Option Loc) (name : Option Identifier) (body : Option Loc) (k : Numbers) (such : PlacedMark → Bool) →
+      how_many such (entry_of (marks (Within file h) construct_kind.Function (function_place loc name body) k) 0 body) ≡ how_many such (numbered file k.counts (counted_function (heeded_place h loc) name body))
+  entry_function Ignored loc name body k such = refl
+  entry_function (Heeding hints) None None None k such = refl
+  entry_function (Heeding hints) None None (Some body) k such = refl
+  entry_function (Heeding hints) None (Some name) body k such = refl
+  entry_function (Heeding hints) (Some loc) None None k such = refl
+  entry_function (Heeding hints) (Some loc) None (Some body) k such = refl
+  entry_function (Heeding hints) (Some loc) (Some name) body k such = by_name name.loc body
+    where
+      by_name : (declared body : Option Loc) → how_many such (entry_of (marks_at file construct_kind.Function (function_place (Some loc) (Some (identifier name.name declared)) body) k) 0 body)
           ≡ how_many such (numbered file k.counts (counted_function (Some loc) (Some (identifier name.name declared)) body))
       by_name None body = refl
       by_name (Some declared) None = refl
       by_name (Some declared) (Some body) = refl
 
-  -- a statement that is counted, where these are left of the statements that the marks before it enter
-  agrees_counted : (arm loc : Option Loc) (f : Numbers → Linked Stmt) (rest : Numbers → List Loc) (k : Numbers) {xs : List Construct} →
-      ((j : Numbers) → places_of (f j).tree ≡ with_place loc (rest j)) → ((j : Numbers) → Agrees [] (entered_stmt arm (rest j) (f j).tree) (f j).next.counts j.counts xs) →
-      Agrees [] (entered_stmt arm (places_of (counted_stmt (Marked file) loc f k).tree) (counted_stmt (Marked file) loc f k).tree) (counted_stmt (Marked file) loc f k).next.counts k.counts (counted loc ++ xs)
-  agrees_counted arm None f rest k e h = agrees_marks (λ such. ap (λ l. how_many such (entered_stmt arm l (f k).tree)) (e k)) (h k)
-  agrees_counted arm (Some loc) f rest k e h =
-      let j = after_marks (Marked file) construct_kind.Statement (Some loc) k in
+  -- a statement that is counted and stands under no label of its own
+  agrees_counted : (h : Heed) (arm loc : Option Loc) (f : Numbers → Linked Stmt) (k : Numbers) {xs : List Construct} →
+      ((j : Numbers) → places_of (f j).tree ≡ with_place loc []) → ((j : Numbers) (places : List Loc) → Agrees [] (entered_stmt arm places (f j).tree) (f j).next.counts j.counts xs) →
+      Agrees [] (entered_stmt arm (places_of (counted_stmt (Within file h) loc f k).tree) (counted_stmt (Within file h) loc f k).tree) (counted_stmt (Within file h) loc f k).next.counts k.counts
+      (counted (heeded_place h loc) ++ xs)
+  agrees_counted Ignored arm loc f k e a = a k (places_of (f k).tree)
+  agrees_counted (Heeding hints) arm None f k e a = a k (places_of (f k).tree)
+  agrees_counted (Heeding hints) arm (Some loc) f k e a =
+      let j = after_marks_at construct_kind.Statement (Some loc) k in
       let n = mark file construct_kind.Statement k.counts.statements 0 in
-      agrees_own (counted (Some loc)) {en = placed n (Some loc) ∷ []} (after_counted file (Some loc) k) (entry_counted (Some loc) k)
-      (agrees_entered (λ such. let p = ap (λ l. how_many such (entered_stmt arm l (EnteredStmt n (f j).tree))) (e j) in omega (arith, p)) (h j))
+      agrees_own (counted (Some loc)) {en = placed n (Some loc) ∷ []} (after_counted (Some loc) k) (entry_counted (Heeding hints) (Some loc) k)
+      (agrees_entered (λ such. let p = ap (λ l. how_many such (entered_stmt arm l (EnteredStmt n (f j).tree))) (e j) in omega (arith, p)) (a j []))
 
-  agrees_counted_expr : (loc : Option Loc) (f : Numbers → Linked Expr) (k : Numbers) {xs : List Construct} → ((j : Numbers) → bare_place (f j).tree ≡ loc) → ((j : Numbers) → Agrees [] (entered_expr (f j).tree) (f j).next.counts j.counts xs) →
-      Agrees [] (entered_expr (counted_expr (Marked file) loc f k).tree) (counted_expr (Marked file) loc f k).next.counts k.counts (counted loc ++ xs)
-  agrees_counted_expr loc f k e h = let j = after_marks (Marked file) construct_kind.Statement loc k in
-      agrees_own (counted loc) (after_counted file loc k) (entry_counted loc k) (agrees_entered (λ such. many_expr such (marks (Marked file) construct_kind.Statement loc k) 0 (f j).tree (e j)) (h j))
+  -- one under a label: the marks before it stand before the label
+  agrees_labelled : (h : Heed) (arm loc : Option Loc) (name : Identifier) (x : Stmt) (k : Numbers) {xs : List Construct} → let m = Within file h in
+      ((j : Numbers) → Agrees [] (entered_stmt arm (places_of (link_stmt (at_stmt m x) x j).tree) (link_stmt (at_stmt m x) x j).tree) (link_stmt (at_stmt m x) x j).next.counts j.counts xs) →
+      Agrees [] (entered_stmt arm (places_of (link_stmt m (Labelled loc name x) k).tree) (link_stmt m (Labelled loc name x) k).tree) (link_stmt m (Labelled loc name x) k).next.counts k.counts
+      (counted (heeded_place h loc) ++ xs)
+  agrees_labelled Ignored arm loc name x k a = let t = (link_stmt (Within file Ignored) x k).tree in
+      agrees_marks (λ such. ap (how_many such) (marks_labelled arm (places_of (labelled loc name t)) loc name t ∙ ignored_places file x k arm (places_of (labelled loc name t)) (places_of t))) (a k)
+  agrees_labelled (Heeding hints) arm None name x k a = let t = (link_stmt (at_stmt (Within file (Heeding hints)) x) x k).tree in
+      agrees_marks (λ such. ap (λ l. how_many such (entered_stmt arm l (labelled None name t))) (labelled_places None name t) ∙ ap (how_many such) (marks_labelled arm (places_of t) None name t)) (a k)
+  agrees_labelled (Heeding hints) arm (Some loc) name x k a =
+      let j = after_marks_at construct_kind.Statement (Some loc) k in
+      let n = mark file construct_kind.Statement k.counts.statements 0 in
+      let t = (link_stmt (at_stmt (Within file (Heeding hints)) x) x j).tree in
+      agrees_own (counted (Some loc)) {en = placed n (Some loc) ∷ []} (after_counted (Some loc) k) (entry_counted (Heeding hints) (Some loc) k)
+      (agrees_entered (λ such. let p = ap (λ l. how_many such (entered_stmt arm l (EnteredStmt n (labelled (Some loc) name t)))) (labelled_places (Some loc) name t) in omega (arith, p))
+      (agrees_marks (λ such. ap (how_many such) (marks_labelled arm (places_of t) (Some loc) name t)) (a j)))
 
-  agrees_chain : (loc : Option Loc) (t : Expr) (places : List (Option Loc)) (k : Numbers) {d : Counts} {xs : List Construct} → leaf_places t ≡ places →
-      Agrees [] (entered_expr t) d (after_marks (Marked file) construct_kind.Branch loc k).counts xs →
-      Agrees [] (entered_expr (enter_leaves (marks (Marked file) construct_kind.Branch loc k) 0 t)) d k.counts (branch branch_kind.Logical loc places ++ xs)
-  agrees_chain None t places k e a = agrees_marks (λ such. ap (how_many such) (leaves_uncounted 0 t)) a
-  agrees_chain (Some loc) t places k e a = let n = k.counts.branches in
-      agrees_own (branch branch_kind.Logical (Some loc) places) {en = paths_from file n 0 places} (after_branch file branch_kind.Logical (Some loc) places k)
-      (λ such. let p = many_append such (paths_from file n 0 places) [] in omega (arith, p))
-      (agrees_entered (λ such. leaves_marked such file n 0 t ∙ ap (λ l. how_many such (paths_from file n 0 l) + how_many such (entered_expr t)) e) a)
+  agrees_counted_expr : (h : Heed) (loc : Option Loc) (f : Numbers → Linked Expr) (k : Numbers) {xs : List Construct} → ((j : Numbers) → bare_place (f j).tree ≡ loc) → ((j : Numbers) → Agrees [] (entered_expr (f j).tree) (f j).next.counts j.counts xs) →
+      Agrees [] (entered_expr (counted_expr (Within file h) loc f k).tree) (counted_expr (Within file h) loc f k).next.counts k.counts (counted (heeded_place h loc) ++ xs)
+  agrees_counted_expr h loc f k e a = let j = after_marks (Within file h) construct_kind.Statement loc k in
+      agrees_own (counted (heeded_place h loc)) (after_counted (heeded_place h loc) k) (entry_counted h loc k) (agrees_entered (λ such. many_expr such (marks (Within file h) construct_kind.Statement loc k) 0 (f j).tree (e j)) (a j))
+
+  -- ---- operands of chains
+
+  abbrev is_operand : Chain → Bool
+  is_operand Alone = false
+  is_operand (Operand b path) = true
+
+  -- the leaves of an operand, and those of them that are entered in it
+  abbrev leaves_of : Chain → Heed → Expr → List PlacedMark
+  leaves_of Alone h e = []
+  leaves_of (Operand b path) h e = paths_of b path (leaf_paths h e)
+
+  abbrev leaves_in : Heed → Expr → Chain → List PlacedMark
+  leaves_in h (Logical loc operator e f) chain = leaves_of chain h (Logical loc operator e f)
+  leaves_in h (Parenthesized loc e) chain = leaves_of chain h e
+  leaves_in h (Entered n e) chain = leaves_in h e chain
+  leaves_in h leaf chain = []
+
+  agrees_operand : (h : Heed) (t : Expr) (chain : Chain) (k : Numbers) {xs : List Construct} → let a = link_expr (Within file h) chain t k in
+      Agrees (leaves_in h t chain) (entered_expr a.tree) a.next.counts k.counts xs →
+      Agrees (leaves_of chain h t) (entered_expr (operand (Within file h) chain a).tree) (operand (Within file h) chain a).next.counts k.counts xs
+  agrees_operand h (Logical loc operator e f) Alone k a = a
+  agrees_operand h (Logical loc operator e f) (Operand b path) k a = a
+  agrees_operand h (Parenthesized loc e) Alone k a = a
+  agrees_operand h (Parenthesized loc e) (Operand b path) k a = a
+  agrees_operand h (Entered n e) Alone k a = agrees_operand h e Alone k a
+  agrees_operand h (Entered n e) (Operand b path) k a = agrees_operand h e (Operand b path) k a
+  agrees_operand h t Alone k a = a
+  agrees_operand h t (Operand b path) k a = let x = link_expr (Within file h) (Operand b path) t k in
+      agrees_entered (λ such. let p = many_expr such (by_path (Within file h) b) path x.tree (bare_linked (Within file h) (Operand b path) t k) in
+      let q = part_paths such file h b path (bare_place t) [] in let r = append-nil (path_in h (bare_place t)) in let s = ap (λ l. how_many such (paths_of b path l)) r in let u = no_paths such b (past_path (Within file h) path) in omega (arith, p, q, s, u)) a
+    where
+      no_paths : (such : PlacedMark → Bool) (b : Marks) (path : ℕ) → how_many such (paths_of b path []) ≡ 0
+      no_paths such Uncounted path = refl
+      no_paths such (Counted g kind number) path = refl
+
+  -- one operand after another
+  agrees_chain : (b : Marks) (path : ℕ) (h g : Heed) (e f : Expr) {ms ns : List PlacedMark} {c d i : Counts} {xs ys : List Construct} →
+      Agrees (leaves_of (Operand b path) h e) ms d c xs → Agrees (leaves_of (Operand b (past_leaves (Within file h) e path)) g f) ns i d ys →
+      Agrees (paths_of b path (leaf_paths h e ++ leaf_paths g f)) (ms ++ ns) i c (xs ++ ys)
+  agrees_chain b path h g e f x y = agrees_entry {en = paths_of b path (leaf_paths h e) ++ paths_of b (path + length (leaf_paths h e)) (leaf_paths g f)} (λ such. many_append such (paths_of b path (leaf_paths h e)) (paths_of b (path + length (leaf_paths h e)) (leaf_paths g f)) ∙ sym (paths_of_append such b path (leaf_paths h e) (leaf_paths g f))) (agrees_both x y)
+
+  -- ---- a part as the walk goes to it in the tree without its marks
+
+  here_expr : (h : Heed) (x : Expr) (chained : Bool) {en ms : List PlacedMark} {c d : Counts} → Agrees en ms d c (walk_expr (heed h (expr_place x)) chained (unmarked_expr x)) → Agrees en ms d c (walk_expr (heed h (expr_place (unmarked_expr x))) chained (unmarked_expr x))
+  here_expr h x chained a = agrees_same (ap (λ p. walk_expr (heed h p) chained (unmarked_expr x)) (sym (expr_unmarked x))) a
+
+  here_stmt : (h : Heed) (x : Stmt) {en ms : List PlacedMark} {c d : Counts} → Agrees en ms d c (walk_stmt (heed h (stmt_place x)) (unmarked_stmt x)) → Agrees en ms d c (walk_stmt (heed h (stmt_place (unmarked_stmt x))) (unmarked_stmt x))
+  here_stmt h x a = agrees_same (ap (λ p. walk_stmt (heed h p) (unmarked_stmt x)) (sym (stmt_unmarked x))) a
+
+  here_property : (h : Heed) (x : Property) {en ms : List PlacedMark} {c d : Counts} → Agrees en ms d c (walk_property (heed h (property_place x)) (unmarked_property x)) → Agrees en ms d c (walk_property (heed h (property_place (unmarked_property x))) (unmarked_property x))
+  here_property h x a = agrees_same (ap (λ p. walk_property (heed h p) (unmarked_property x)) (sym (property_unmarked x))) a
+
+  here_param : (h : Heed) (x : Param) {en ms : List PlacedMark} {c d : Counts} → Agrees en ms d c (walk_param (heed h (param_place x)) (unmarked_param x)) → Agrees en ms d c (walk_param (heed h (param_place (unmarked_param x))) (unmarked_param x))
+  here_param h x a = agrees_same (ap (λ p. walk_param (heed h p) (unmarked_param x)) (sym (param_unmarked x))) a
+
+  here_declarator : (h : Heed) (x : Declarator) {en ms : List PlacedMark} {c d : Counts} → Agrees en ms d c (walk_declarator (heed h (declarator_place x)) (unmarked_declarator x)) → Agrees en ms d c (walk_declarator (heed h (declarator_place (unmarked_declarator x))) (unmarked_declarator x))
+  here_declarator h x a = agrees_same (ap (λ p. walk_declarator (heed h p) (unmarked_declarator x)) (sym (declarator_unmarked x))) a
+
+  here_case : (h : Heed) (x : Case) {en ms : List PlacedMark} {c d : Counts} → Agrees en ms d c (walk_case (heed h (case_place x)) (unmarked_case x)) → Agrees en ms d c (walk_case (heed h (case_place (unmarked_case x))) (unmarked_case x))
+  here_case h x a = agrees_same (ap (λ p. walk_case (heed h p) (unmarked_case x)) (sym (case_unmarked x))) a
+
+  none_alone : (h : Heed) (t : Expr) → leaves_in h t Alone ≡ []
+  none_alone h (Entered n e) = none_alone h e
+  none_alone h _ = refl
+
+  alone_expr : (h : Heed) (x : Expr) {ms : List PlacedMark} {c d : Counts} → Agrees (leaves_in (heed h (expr_place x)) x Alone) ms d c (walk_expr (heed h (expr_place x)) false (unmarked_expr x)) →
+      Agrees [] ms d c (walk_expr (heed h (expr_place (unmarked_expr x))) false (unmarked_expr x))
+  alone_expr h x a = here_expr h x false (agrees_entry (λ such. ap (how_many such) (none_alone (heed h (expr_place x)) x)) a)
 
   mutual
-    agrees_expr : (t : Expr) (chained : Bool) (k : Numbers) → Agrees [] (entered_expr (link_expr (Marked file) chained t k).tree) (link_expr (Marked file) chained t k).next.counts k.counts (walk_expr chained (unmarked_expr t))
-    agrees_expr (IdentifierReference loc text) chained k = agrees_none
-    agrees_expr (This loc) chained k = agrees_none
-    agrees_expr (NullLiteral loc) chained k = agrees_none
-    agrees_expr (BooleanLiteral loc b) chained k = agrees_none
-    agrees_expr (NumericLiteral loc text) chained k = agrees_none
-    agrees_expr (StringLiteral loc spelled) chained k = agrees_none
-    agrees_expr (ArrayLiteral loc es) chained k = agrees_exprs es k
-    agrees_expr (ObjectLiteral loc properties) chained k = agrees_properties properties k
-    agrees_expr (FunctionExpression loc name function) chained k = agrees_function function loc name k
-    agrees_expr (ArrowFunction loc number params body) chained k =
+    agrees_expr : (h : Heed) (t : Expr) (chain : Chain) (k : Numbers) → Agrees (leaves_in h t chain) (entered_expr (link_expr (Within file h) chain t k).tree) (link_expr (Within file h) chain t k).next.counts k.counts (walk_expr h (is_operand chain) (unmarked_expr t))
+    agrees_expr h (IdentifierReference loc text) chain k = agrees_none
+    agrees_expr h (This loc) chain k = agrees_none
+    agrees_expr h (NullLiteral loc) chain k = agrees_none
+    agrees_expr h (BooleanLiteral loc b) chain k = agrees_none
+    agrees_expr h (NumericLiteral loc text) chain k = agrees_none
+    agrees_expr h (StringLiteral loc spelled) chain k = agrees_none
+    agrees_expr h (ArrayLiteral loc es) chain k = agrees_exprs h es k
+    agrees_expr h (ObjectLiteral loc properties) chain k = agrees_properties h properties k
+    agrees_expr h (FunctionExpression loc name function) chain k = agrees_function h function loc name k
+    agrees_expr h (ArrowFunction loc number params body) chain k =
+        let m = Within file h in
         let place = function_place loc None (concise_place body) in
-        let j = after_marks (Marked file) construct_kind.Function place k in
-        let p = link_params (Marked file) params (after_code j) in
-        let rest = agrees_concise_body body p.next in
-        agrees_same (ap (λ b. counted_function loc None b ++ (walk_params (unmarked_params params) ++ walk_concise_body (unmarked_concise_body body))) (sym (concise_unmarked body)))
-        (agrees_own (counted_function loc None (concise_place body)) (after_function file loc None (concise_place body) k) (entry_function loc None (concise_place body) k)
-        (agrees_both (agrees_params params (after_code j)) (agrees_entered (λ such. many_concise such (marks (Marked file) construct_kind.Function place k) (link_concise_body (Marked file) body p.next).tree (concise_linked file body p.next)) rest)))
-    agrees_expr (RegularExpressionLiteral loc text flags) chained k = agrees_none
-    agrees_expr (TemplateLiteral loc spelled parts) chained k = agrees_template_parts parts k
-    agrees_expr (Parenthesized loc e) chained k = agrees_expr e chained k
-    agrees_expr (NamedMember loc e text) chained k = agrees_expr e false k
-    agrees_expr (ComputedMember loc e f) chained k = agrees_two (agrees_expr e false k) (agrees_expr f false (link_expr (Marked file) false e k).next)
-    agrees_expr (New loc e es) chained k = agrees_two (agrees_expr e false k) (agrees_exprs es (link_expr (Marked file) false e k).next)
-    agrees_expr (Call loc e es) chained k = agrees_two (agrees_expr e false k) (agrees_exprs es (link_expr (Marked file) false e k).next)
-    agrees_expr (PostfixUpdate loc operator e) chained k = agrees_expr e false k
-    agrees_expr (PrefixUpdate loc operator e) chained k = agrees_expr e false k
-    agrees_expr (Unary loc operator e) chained k = agrees_expr e false k
-    agrees_expr (Binary loc operator e f) chained k = agrees_two (agrees_expr e false k) (agrees_expr f false (link_expr (Marked file) false e k).next)
-    agrees_expr (Logical loc operator e f) true k = agrees_two (agrees_expr e true k) (agrees_expr f true (link_expr (Marked file) true e k).next)
-    agrees_expr (Logical loc operator e f) false k =
-        let j = after_marks (Marked file) construct_kind.Branch loc k in
-        let left = link_expr (Marked file) true e j in
-        let right = link_expr (Marked file) true f left.next in
-        agrees_chain loc (Logical loc operator left.tree right.tree) (leaf_places (unmarked_expr e) ++ leaf_places (unmarked_expr f)) k
-        (ap (λ (l : List (Option Loc)). l ++ leaf_places right.tree) (leaves_linked file e j) ∙ ap (λ (l : List (Option Loc)). leaf_places (unmarked_expr e) ++ l) (leaves_linked file f left.next))
-        (agrees_two (agrees_expr e true j) (agrees_expr f true left.next))
-    agrees_expr (Conditional loc e f g) chained k =
-        let j = after_marks (Marked file) construct_kind.Branch loc k in
-        let b = marks (Marked file) construct_kind.Branch loc k in
-        let holds = link_expr (Marked file) false f (link_expr (Marked file) false e j).next in
-        let fails = link_expr (Marked file) false g holds.next in
-        agrees_own (branch branch_kind.Conditional loc (bare_place (unmarked_expr f) ∷ bare_place (unmarked_expr g) ∷ [])) (after_branch file branch_kind.Conditional loc (bare_place (unmarked_expr f) ∷ bare_place (unmarked_expr g) ∷ []) k) (entry_branch branch_kind.Conditional loc (bare_place (unmarked_expr f)) (bare_place (unmarked_expr g)) k)
-        (agrees_both (agrees_both (agrees_expr e false j) (agrees_entered (λ such. many_expr such b 0 holds.tree (bare_linked file false f (link_expr (Marked file) false e j).next ∙ sym (bare_unmarked f))) (agrees_expr f false (link_expr (Marked file) false e j).next))) (agrees_entered (λ such. many_expr such b 1 fails.tree (bare_linked file false g holds.next ∙ sym (bare_unmarked g))) (agrees_expr g false holds.next)))
-    agrees_expr (Assignment loc operator e f) chained k = agrees_two (agrees_expr e false k) (agrees_expr f false (link_expr (Marked file) false e k).next)
-    agrees_expr (Comma loc e f) chained k = agrees_two (agrees_expr e false k) (agrees_expr f false (link_expr (Marked file) false e k).next)
-    agrees_expr (Entered n e) chained k = agrees_expr e chained k
+        let j = after_marks m construct_kind.Function place k in
+        let p = link_params m params (after_code j) in
+        agrees_same (ap (λ b. counted_function (heeded_place h loc) None b ++ (walk_params h (unmarked_params params) ++ walk_concise_body h (unmarked_concise_body body))) (sym (concise_unmarked body)))
+        (agrees_own (counted_function (heeded_place h loc) None (concise_place body)) (after_function file h loc None (concise_place body) k) (entry_function h loc None (concise_place body) k)
+        (agrees_both (agrees_params h params (after_code j))
+        (agrees_entered (λ such. many_concise such (marks m construct_kind.Function place k) (link_concise_body m body p.next).tree (concise_linked m body p.next)) (agrees_concise_body h body p.next))))
+    agrees_expr h (RegularExpressionLiteral loc text flags) chain k = agrees_none
+    agrees_expr h (TemplateLiteral loc spelled parts) chain k = agrees_template_parts h parts k
+    agrees_expr h (Parenthesized loc e) chain k = agrees_operand h e chain k (agrees_expr h e chain k)
+    agrees_expr h (NamedMember loc e text) chain k = (alone_expr h e (agrees_expr (heed h (expr_place e)) e Alone k))
+    agrees_expr h (ComputedMember loc e f) chain k = agrees_two ((alone_expr h e (agrees_expr (heed h (expr_place e)) e Alone k))) ((alone_expr h f (agrees_expr (heed h (expr_place f)) f Alone (link_expr (at_expr (Within file h) e) Alone e k).next)))
+    agrees_expr h (New loc e es) chain k = agrees_two ((alone_expr h e (agrees_expr (heed h (expr_place e)) e Alone k))) (agrees_exprs h es (link_expr (at_expr (Within file h) e) Alone e k).next)
+    agrees_expr h (Call loc e es) chain k = agrees_two ((alone_expr h e (agrees_expr (heed h (expr_place e)) e Alone k))) (agrees_exprs h es (link_expr (at_expr (Within file h) e) Alone e k).next)
+    agrees_expr h (PostfixUpdate loc operator e) chain k = (alone_expr h e (agrees_expr (heed h (expr_place e)) e Alone k))
+    agrees_expr h (PrefixUpdate loc operator e) chain k = (alone_expr h e (agrees_expr (heed h (expr_place e)) e Alone k))
+    agrees_expr h (Unary loc operator e) chain k = (alone_expr h e (agrees_expr (heed h (expr_place e)) e Alone k))
+    agrees_expr h (Binary loc operator e f) chain k = agrees_two ((alone_expr h e (agrees_expr (heed h (expr_place e)) e Alone k))) ((alone_expr h f (agrees_expr (heed h (expr_place f)) f Alone (link_expr (at_expr (Within file h) e) Alone e k).next)))
+    agrees_expr h (Logical loc operator e f) (Operand b path) k =
+        let g = heed h (expr_place e) in
+        let i = heed h (expr_place f) in
+        let left = operand (Within file g) (Operand b path) (link_expr (Within file g) (Operand b path) e k) in
+        let next = past_leaves (Within file g) e path in
+        agrees_chain b path g i e f
+        (here_expr h e true (agrees_operand g e (Operand b path) k (agrees_expr g e (Operand b path) k)))
+        (here_expr h f true (agrees_operand i f (Operand b next) left.next (agrees_expr i f (Operand b next) left.next)))
+    agrees_expr h (Logical loc operator e f) Alone k =
+        let g = heed h (expr_place e) in
+        let i = heed h (expr_place f) in
+        let place = heeded_place h loc in
+        let j = after_marks_at construct_kind.Branch place k in
+        let b = marks_at file construct_kind.Branch place k in
+        let left = operand (Within file g) (Operand b 0) (link_expr (Within file g) (Operand b 0) e j) in
+        let next = past_leaves (Within file g) e 0 in
+        let paths = leaf_paths g e ++ leaf_paths i f in
+        agrees_same (ap (λ l. branch branch_kind.Logical place l ++ (walk_expr (heed h (expr_place (unmarked_expr e))) true (unmarked_expr e) ++ walk_expr (heed h (expr_place (unmarked_expr f))) true (unmarked_expr f))) (sym (chain_paths_same h e f)))
+        (agrees_own (branch branch_kind.Logical place paths) (after_branch branch_kind.Logical place paths k) (entry_branch branch_kind.Logical place paths k)
+        (agrees_chain b 0 g i e f
+        (here_expr h e true (agrees_operand g e (Operand b 0) j (agrees_expr g e (Operand b 0) j)))
+        (here_expr h f true (agrees_operand i f (Operand b next) left.next (agrees_expr i f (Operand b next) left.next)))))
+    agrees_expr h (Conditional loc e f g) chain k =
+        let m = Within file h in
+        let place = heeded_place h loc in
+        let j = after_marks_at construct_kind.Branch place k in
+        let b = marks_at file construct_kind.Branch place k in
+        let first = link_expr (at_expr m e) Alone e j in
+        let holds = link_expr (at_expr m f) Alone f first.next in
+        let fails = link_expr (at_expr m g) Alone g holds.next in
+        let i = heed h (expr_place f) in
+        let n = heed h (expr_place g) in
+        let paths = expr_paths h f ++ expr_paths h g in
+        agrees_same (ap (λ l. branch branch_kind.Conditional place l ++ (walk_expr (heed h (expr_place (unmarked_expr e))) false (unmarked_expr e) ++ walk_expr (heed h (expr_place (unmarked_expr f))) false (unmarked_expr f) ++ walk_expr (heed h (expr_place (unmarked_expr g))) false (unmarked_expr g)))
+        (sym (pair_same (expr_paths_same h f) (expr_paths_same h g))))
+        (agrees_own (branch branch_kind.Conditional place paths) (after_branch branch_kind.Conditional place paths k)
+        (λ such. entry_two b (bare_place f) (bare_place g) i n such ∙ entry_branch branch_kind.Conditional place paths k such)
+        (agrees_both (agrees_both (alone_expr h e (agrees_expr (heed h (expr_place e)) e Alone j))
+        (agrees_entered (λ such. many_expr such (by_path (Within file i) b) 0 holds.tree (bare_linked (at_expr m f) Alone f first.next)) (alone_expr h f (agrees_expr i f Alone first.next))))
+        (agrees_entered (λ such. many_expr such (by_path (Within file n) b) (past_path (Within file i) 0) fails.tree (bare_linked (at_expr m g) Alone g holds.next)) (alone_expr h g (agrees_expr n g Alone holds.next)))))
+    agrees_expr h (Assignment loc operator e f) chain k = agrees_two ((alone_expr h e (agrees_expr (heed h (expr_place e)) e Alone k))) ((alone_expr h f (agrees_expr (heed h (expr_place f)) f Alone (link_expr (at_expr (Within file h) e) Alone e k).next)))
+    agrees_expr h (Comma loc e f) chain k = agrees_two ((alone_expr h e (agrees_expr (heed h (expr_place e)) e Alone k))) ((alone_expr h f (agrees_expr (heed h (expr_place f)) f Alone (link_expr (at_expr (Within file h) e) Alone e k).next)))
+    agrees_expr h (Entered n e) chain k = agrees_expr h e chain k
 
-    agrees_stmt : (t : Stmt) (arm : Option Loc) (k : Numbers) → Agrees [] (entered_stmt arm (places_of (link_stmt (Marked file) t k).tree) (link_stmt (Marked file) t k).tree) (link_stmt (Marked file) t k).next.counts k.counts (walk_stmt (unmarked_stmt t))
-    agrees_stmt (Directive loc spelled) arm k = agrees_none
-    agrees_stmt (Block loc xs) arm k = agrees_stmts xs k
-    agrees_stmt (VariableDeclaration loc kind declarators) arm k = agrees_declarators declarators k
-    agrees_stmt (Empty loc) arm k = agrees_none
-    agrees_stmt (Expression loc e) arm k = agrees_counted arm loc (λ k. made (Expression loc) (link_expr (Marked file) false e k)) (λ j. []) k (λ j. refl) (λ j. agrees_expr e false j)
-    agrees_stmt (If loc e x y) arm k = agrees_assoc (counted loc) (if_branch loc (unmarked_stmt_if y)) _ (agrees_counted arm loc (λ k. branched (Marked file) loc (λ b k. three (λ e' x' y'. If loc e' (enter_stmt b 0 x') (enter_arm b 1 y')) (link_expr (Marked file) false e k) (link_stmt (Marked file) x) (link_stmt_if (Marked file) y)) k) (λ j. []) k (λ j. refl) (λ i.
-        let j = after_marks (Marked file) construct_kind.Branch loc i in
-        let b = marks (Marked file) construct_kind.Branch loc i in
-        let holds = link_stmt (Marked file) x (link_expr (Marked file) false e j).next in
-        let fails = link_stmt_if (Marked file) y holds.next in
-        agrees_own (branch branch_kind.If loc (loc ∷ stmt_if_place (unmarked_stmt_if y) ∷ [])) (after_branch file branch_kind.If loc (loc ∷ stmt_if_place (unmarked_stmt_if y) ∷ []) i) (entry_branch branch_kind.If loc loc (stmt_if_place (unmarked_stmt_if y)) i)
-        (agrees_both (agrees_both (agrees_expr e false j) (agrees_entered (λ such. many_arm file such loc loc i 0 holds.tree) (agrees_stmt x loc (link_expr (Marked file) false e j).next))) (agrees_entered (λ such. many_else file such loc i 1 y holds.next (stmt_if_linked file y holds.next ∙ sym (stmt_if_unmarked y))) (agrees_stmt_if y holds.next)))))
-    agrees_stmt (DoWhile loc x e) arm k = agrees_counted arm loc (λ k. two (DoWhile loc) (link_stmt (Marked file) x k) (link_expr (Marked file) false e)) (λ j. []) k (λ j. refl) (λ j. agrees_two (agrees_stmt x None j) (agrees_expr e false (link_stmt (Marked file) x j).next))
-    agrees_stmt (While loc e x) arm k = agrees_counted arm loc (λ k. two (While loc) (link_expr (Marked file) false e k) (link_stmt (Marked file) x)) (λ j. []) k (λ j. refl) (λ j. agrees_two (agrees_expr e false j) (agrees_stmt x None (link_expr (Marked file) false e j).next))
-    agrees_stmt (For loc init e f x) arm k = agrees_counted arm loc (λ k. four (For loc) (link_for_init (Marked file) init k) (link_expr_if (Marked file) e) (link_expr_if (Marked file) f) (link_stmt (Marked file) x)) (λ j. []) k (λ j. refl) (λ j. agrees_two (agrees_two (agrees_two (agrees_for_init init j) (agrees_expr_if e (link_for_init (Marked file) init j).next)) (agrees_expr_if f (link_expr_if (Marked file) e (link_for_init (Marked file) init j).next).next)) (agrees_stmt x None (link_expr_if (Marked file) f (link_expr_if (Marked file) e (link_for_init (Marked file) init j).next).next).next))
-    agrees_stmt (ForIn loc target e x) arm k = agrees_counted arm loc (λ k. three (ForIn loc) (link_for_target (Marked file) target k) (link_expr (Marked file) false e) (link_stmt (Marked file) x)) (λ j. []) k (λ j. refl) (λ j. agrees_two (agrees_two (agrees_for_target target j) (agrees_expr e false (link_for_target (Marked file) target j).next)) (agrees_stmt x None (link_expr (Marked file) false e (link_for_target (Marked file) target j).next).next))
-    agrees_stmt (ForOf loc target e x) arm k = agrees_counted arm loc (λ k. three (ForOf loc) (link_for_target (Marked file) target k) (link_expr (Marked file) false e) (link_stmt (Marked file) x)) (λ j. []) k (λ j. refl) (λ j. agrees_two (agrees_two (agrees_for_target target j) (agrees_expr e false (link_for_target (Marked file) target j).next)) (agrees_stmt x None (link_expr (Marked file) false e (link_for_target (Marked file) target j).next).next))
-    agrees_stmt (Continue loc name) arm k = agrees_counted arm loc (λ k. kept (Continue loc name) k) (λ j. []) k (λ j. refl) (λ j. agrees_none)
-    agrees_stmt (Break loc name) arm k = agrees_counted arm loc (λ k. kept (Break loc name) k) (λ j. []) k (λ j. refl) (λ j. agrees_none)
-    agrees_stmt (Return loc e) arm k = agrees_counted arm loc (λ k. made (Return loc) (link_expr_if (Marked file) e k)) (λ j. []) k (λ j. refl) (λ j. agrees_expr_if e j)
-    agrees_stmt (Switch loc e cases) arm k = agrees_assoc (counted loc) (branch branch_kind.Switch loc (case_places (unmarked_cases cases))) _ (agrees_counted arm loc (λ k. branched (Marked file) loc (λ b k. two (Switch loc) (link_expr (Marked file) false e k) (link_cases (Marked file) b 0 cases)) k) (λ j. []) k (λ j. refl) (λ i.
-        let j = after_marks (Marked file) construct_kind.Branch loc i in
-        agrees_own (branch branch_kind.Switch loc (case_places (unmarked_cases cases))) (after_branch file branch_kind.Switch loc (case_places (unmarked_cases cases)) i) (entry_switch loc (case_places (unmarked_cases cases)) i)
-        (agrees_both (agrees_expr e false j) (agrees_cases cases (marks (Marked file) construct_kind.Branch loc i) 0 (link_expr (Marked file) false e j).next))))
-    agrees_stmt (Labelled loc name x) arm k = agrees_counted arm loc (λ k. made (labelled loc name) (link_stmt (Marked file) x k)) (λ j. places_of (link_stmt (Marked file) x j).tree) k (λ j. labelled_places loc name (link_stmt (Marked file) x j).tree) (λ j.
-        let t = (link_stmt (Marked file) x j).tree in
-        agrees_marks (λ such. ap (how_many such) (marks_labelled arm (places_of t) loc name t)) (agrees_stmt x arm j))
-    agrees_stmt (Throw loc e) arm k = agrees_counted arm loc (λ k. made (Throw loc) (link_expr (Marked file) false e k)) (λ j. []) k (λ j. refl) (λ j. agrees_expr e false j)
-    agrees_stmt (TryCatch loc xs catch) arm k = agrees_counted arm loc (λ k. two (TryCatch loc) (link_stmts (Marked file) xs k) (link_catch (Marked file) catch)) (λ j. []) k (λ j. refl) (λ j. agrees_two (agrees_stmts xs j) (agrees_catch catch (link_stmts (Marked file) xs j).next))
-    agrees_stmt (TryFinally loc xs ys) arm k = agrees_counted arm loc (λ k. two (TryFinally loc) (link_stmts (Marked file) xs k) (link_stmts (Marked file) ys)) (λ j. []) k (λ j. refl) (λ j. agrees_two (agrees_stmts xs j) (agrees_stmts ys (link_stmts (Marked file) xs j).next))
-    agrees_stmt (TryCatchFinally loc xs catch ys) arm k = agrees_counted arm loc (λ k. three (TryCatchFinally loc) (link_stmts (Marked file) xs k) (link_catch (Marked file) catch) (link_stmts (Marked file) ys)) (λ j. []) k (λ j. refl) (λ j. agrees_two (agrees_two (agrees_stmts xs j) (agrees_catch catch (link_stmts (Marked file) xs j).next)) (agrees_stmts ys (link_catch (Marked file) catch (link_stmts (Marked file) xs j).next).next))
-    agrees_stmt (Debugger loc) arm k = agrees_counted arm loc (λ k. kept (Debugger loc) k) (λ j. []) k (λ j. refl) (λ j. agrees_none)
-    agrees_stmt (FunctionDeclaration loc name function) arm k = agrees_function function loc (Some name) k
-    agrees_stmt (EnteredStmt n x) arm k = agrees_stmt x arm k
+    agrees_stmt : (h : Heed) (t : Stmt) (arm : Option Loc) (k : Numbers) → Agrees [] (entered_stmt arm (places_of (link_stmt (Within file h) t k).tree) (link_stmt (Within file h) t k).tree) (link_stmt (Within file h) t k).next.counts k.counts (walk_stmt h (unmarked_stmt t))
+    agrees_stmt h (Directive loc spelled) arm k = agrees_none
+    agrees_stmt h (Block loc xs) arm k = agrees_stmts h xs k
+    agrees_stmt h (VariableDeclaration loc kind declarators) arm k = agrees_declarators h declarators k
+    agrees_stmt h (Empty loc) arm k = agrees_none
+    agrees_stmt h (Expression loc e) arm k = agrees_counted h arm loc (λ k. made (Expression loc) (link_expr (at_expr (Within file h) e) Alone e k)) k (λ j. refl) (λ j places. (alone_expr h e (agrees_expr (heed h (expr_place e)) e Alone j)))
+    agrees_stmt h (If loc e x y) arm k =
+        let m = Within file h in
+        let place = heeded_place h loc in
+        let left = heed_arm hint.If h loc in
+        let other = heed_arm hint.Else h loc in
+        let g = heed left (stmt_place x) in
+        let o = heed other (stmt_if_place y) in
+        let paths = if_paths h loc x y in
+        agrees_same (ap (λ l. counted place ++ branch branch_kind.If place l ++ (walk_expr (heed h (expr_place (unmarked_expr e))) false (unmarked_expr e) ++ walk_stmt (heed left (stmt_place (unmarked_stmt x))) (unmarked_stmt x) ++ walk_stmt_if other (unmarked_stmt_if y))) (sym (if_paths_same h loc x y)))
+        (agrees_assoc (counted place) (branch branch_kind.If place paths) _
+        (agrees_counted h arm loc (λ k. branched m loc (λ b k. three (λ e' x' y'. If loc e' (enter_stmt (by_path (Within file g) b) 0 x') (enter_arm (by_path (Within file o) b) (past_path (Within file g) 0) y'))
+        (link_expr (at_expr m e) Alone e k) (link_stmt (Within file g) x) (link_stmt_if (Within file o) y)) k) k (λ j. refl) (λ i places.
+        let j = after_marks_at construct_kind.Branch place i in
+        let b = marks_at file construct_kind.Branch place i in
+        let first = link_expr (at_expr m e) Alone e j in
+        let holds = link_stmt (Within file g) x first.next in
+        agrees_own (branch branch_kind.If place paths) (after_branch branch_kind.If place paths i)
+        (λ such. entry_two b loc (stmt_if_place y) g o such ∙ entry_branch branch_kind.If place paths i such)
+        (agrees_both (agrees_both (alone_expr h e (agrees_expr (heed h (expr_place e)) e Alone j))
+        (agrees_entered (λ such. many_arm file such loc place i g 0 holds.tree) (here_stmt left x (agrees_stmt g x loc first.next))))
+        (agrees_entered (λ such. many_else such (Within file o) (by_path (Within file o) b) (past_path (Within file g) 0) y holds.next (is_branch file o place i) (stmt_if_linked (Within file o) y holds.next)) (agrees_stmt_if other y holds.next))))))
+    agrees_stmt h (DoWhile loc x e) arm k = agrees_counted h arm loc (λ k. two (DoWhile loc) (link_stmt (at_stmt (Within file h) x) x k) (link_expr (at_expr (Within file h) e) Alone e)) k (λ j. refl) (λ j places. agrees_two ((here_stmt h x (agrees_stmt (heed h (stmt_place x)) x None j))) ((alone_expr h e (agrees_expr (heed h (expr_place e)) e Alone (link_stmt (at_stmt (Within file h) x) x j).next))))
+    agrees_stmt h (While loc e x) arm k = agrees_counted h arm loc (λ k. two (While loc) (link_expr (at_expr (Within file h) e) Alone e k) (link_stmt (at_stmt (Within file h) x) x)) k (λ j. refl) (λ j places. agrees_two ((alone_expr h e (agrees_expr (heed h (expr_place e)) e Alone j))) ((here_stmt h x (agrees_stmt (heed h (stmt_place x)) x None (link_expr (at_expr (Within file h) e) Alone e j).next))))
+    agrees_stmt h (For loc init e f x) arm k = agrees_counted h arm loc (λ k. four (For loc) (link_for_init (Within file h) init k) (link_expr_if (Within file h) e) (link_expr_if (Within file h) f) (link_stmt (at_stmt (Within file h) x) x)) k (λ j. refl) (λ j places. agrees_two (agrees_two (agrees_two (agrees_for_init h init j) (agrees_expr_if h e (link_for_init (Within file h) init j).next)) (agrees_expr_if h f (link_expr_if (Within file h) e (link_for_init (Within file h) init j).next).next)) ((here_stmt h x (agrees_stmt (heed h (stmt_place x)) x None (link_expr_if (Within file h) f (link_expr_if (Within file h) e (link_for_init (Within file h) init j).next).next).next))))
+    agrees_stmt h (ForIn loc target e x) arm k = agrees_counted h arm loc (λ k. three (ForIn loc) (link_for_target (Within file h) target k) (link_expr (at_expr (Within file h) e) Alone e) (link_stmt (at_stmt (Within file h) x) x)) k (λ j. refl) (λ j places. agrees_two (agrees_two (agrees_for_target h target j) ((alone_expr h e (agrees_expr (heed h (expr_place e)) e Alone (link_for_target (Within file h) target j).next)))) ((here_stmt h x (agrees_stmt (heed h (stmt_place x)) x None (link_expr (at_expr (Within file h) e) Alone e (link_for_target (Within file h) target j).next).next))))
+    agrees_stmt h (ForOf loc target e x) arm k = agrees_counted h arm loc (λ k. three (ForOf loc) (link_for_target (Within file h) target k) (link_expr (at_expr (Within file h) e) Alone e) (link_stmt (at_stmt (Within file h) x) x)) k (λ j. refl) (λ j places. agrees_two (agrees_two (agrees_for_target h target j) ((alone_expr h e (agrees_expr (heed h (expr_place e)) e Alone (link_for_target (Within file h) target j).next)))) ((here_stmt h x (agrees_stmt (heed h (stmt_place x)) x None (link_expr (at_expr (Within file h) e) Alone e (link_for_target (Within file h) target j).next).next))))
+    agrees_stmt h (Continue loc name) arm k = agrees_counted h arm loc (λ k. kept (Continue loc name) k) k (λ j. refl) (λ j places. agrees_none)
+    agrees_stmt h (Break loc name) arm k = agrees_counted h arm loc (λ k. kept (Break loc name) k) k (λ j. refl) (λ j places. agrees_none)
+    agrees_stmt h (Return loc e) arm k = agrees_counted h arm loc (λ k. made (Return loc) (link_expr_if (Within file h) e k)) k (λ j. refl) (λ j places. agrees_expr_if h e j)
+    agrees_stmt h (Switch loc e cases) arm k =
+        let m = Within file h in
+        let place = heeded_place h loc in
+        let paths = case_paths h cases in
+        agrees_same (ap (λ l. counted place ++ branch branch_kind.Switch place l ++ (walk_expr (heed h (expr_place (unmarked_expr e))) false (unmarked_expr e) ++ walk_cases h (unmarked_cases cases))) (sym (case_paths_same h cases)))
+        (agrees_assoc (counted place) (branch branch_kind.Switch place paths) _
+        (agrees_counted h arm loc (λ k. branched m loc (λ b k. two (Switch loc) (link_expr (at_expr m e) Alone e k) (link_cases m b 0 cases)) k) k (λ j. refl) (λ i places.
+        let j = after_marks_at construct_kind.Branch place i in
+        agrees_own (branch branch_kind.Switch place paths) (after_branch branch_kind.Switch place paths i) (entry_branch branch_kind.Switch place paths i)
+        (agrees_both (alone_expr h e (agrees_expr (heed h (expr_place e)) e Alone j)) (agrees_cases h cases (marks_at file construct_kind.Branch place i) 0 (link_expr (at_expr m e) Alone e j).next)))))
+    agrees_stmt h (Labelled loc name x) arm k = agrees_labelled h arm loc name x k (λ j. here_stmt h x (agrees_stmt (heed h (stmt_place x)) x arm j))
+    agrees_stmt h (Throw loc e) arm k = agrees_counted h arm loc (λ k. made (Throw loc) (link_expr (at_expr (Within file h) e) Alone e k)) k (λ j. refl) (λ j places. (alone_expr h e (agrees_expr (heed h (expr_place e)) e Alone j)))
+    agrees_stmt h (TryCatch loc xs catch) arm k = agrees_counted h arm loc (λ k. two (TryCatch loc) (link_stmts (Within file h) xs k) (link_catch (Within file h) catch)) k (λ j. refl) (λ j places. agrees_two (agrees_stmts h xs j) (agrees_catch h catch (link_stmts (Within file h) xs j).next))
+    agrees_stmt h (TryFinally loc xs ys) arm k = agrees_counted h arm loc (λ k. two (TryFinally loc) (link_stmts (Within file h) xs k) (link_stmts (Within file h) ys)) k (λ j. refl) (λ j places. agrees_two (agrees_stmts h xs j) (agrees_stmts h ys (link_stmts (Within file h) xs j).next))
+    agrees_stmt h (TryCatchFinally loc xs catch ys) arm k = agrees_counted h arm loc (λ k. three (TryCatchFinally loc) (link_stmts (Within file h) xs k) (link_catch (Within file h) catch) (link_stmts (Within file h) ys)) k (λ j. refl) (λ j places. agrees_two (agrees_two (agrees_stmts h xs j) (agrees_catch h catch (link_stmts (Within file h) xs j).next)) (agrees_stmts h ys (link_catch (Within file h) catch (link_stmts (Within file h) xs j).next).next))
+    agrees_stmt h (Debugger loc) arm k = agrees_counted h arm loc (λ k. kept (Debugger loc) k) k (λ j. refl) (λ j places. agrees_none)
+    agrees_stmt h (FunctionDeclaration loc name function) arm k = agrees_function h function loc (Some name) k
+    agrees_stmt h (EnteredStmt n x) arm k = agrees_stmt h x arm k
 
-    agrees_property : (t : Property) (k : Numbers) → Agrees [] (entered_property (link_property (Marked file) t k).tree) (link_property (Marked file) t k).next.counts k.counts (walk_property (unmarked_property t))
-    agrees_property (Shorthand loc text) k = agrees_none
-    agrees_property (KeyValue loc key e) k = agrees_two (agrees_property_key key k) (agrees_expr e false (link_property_key (Marked file) key k).next)
-    agrees_property (Method loc key (MakeFunction number params body)) k =
+    agrees_property : (h : Heed) (t : Property) (k : Numbers) → Agrees [] (entered_property (link_property (Within file h) t k).tree) (link_property (Within file h) t k).next.counts k.counts (walk_property h (unmarked_property t))
+    agrees_property h (Shorthand loc text) k = agrees_none
+    agrees_property h (KeyValue loc key e) k = agrees_two (agrees_property_key h key k) ((alone_expr h e (agrees_expr (heed h (expr_place e)) e Alone (link_property_key (Within file h) key k).next)))
+    agrees_property h (Method loc key (MakeFunction number params body)) k =
+        let m = Within file h in
         let place = function_place loc None (braced_place body) in
-        let j = after_marks (Marked file) construct_kind.Function place k in
-        let q = link_property_key (Marked file) key (after_code j) in
-        let p = link_params (Marked file) params q.next in
-        agrees_same (ap (λ b. counted_function loc None b ++ (walk_property_key (unmarked_property_key key) ++ (walk_params (unmarked_params params) ++ walk_function_body (unmarked_function_body body)))) (sym (braced_unmarked body)))
-        (agrees_own (counted_function loc None (braced_place body)) (after_function file loc None (braced_place body) k) (entry_function loc None (braced_place body) k)
-        (agrees_both (agrees_property_key key (after_code j)) (agrees_both (agrees_params params q.next)
-        (agrees_entered (λ such. many_body such (marks (Marked file) construct_kind.Function place k) (link_function_body (Marked file) body p.next).tree (braced_linked file body p.next)) (agrees_function_body body p.next)))))
+        let j = after_marks m construct_kind.Function place k in
+        let q = link_property_key m key (after_code j) in
+        let p = link_params m params q.next in
+        agrees_same (ap (λ b. counted_function (heeded_place h loc) None b ++ (walk_property_key h (unmarked_property_key key) ++ (walk_params h (unmarked_params params) ++ walk_function_body h (unmarked_function_body body)))) (sym (braced_unmarked body)))
+        (agrees_own (counted_function (heeded_place h loc) None (braced_place body)) (after_function file h loc None (braced_place body) k) (entry_function h loc None (braced_place body) k)
+        (agrees_both (agrees_property_key h key (after_code j)) (agrees_both (agrees_params h params q.next)
+        (agrees_entered (λ such. many_body such (marks m construct_kind.Function place k) (link_function_body m body p.next).tree (braced_linked m body p.next)) (agrees_function_body h body p.next)))))
 
-    agrees_property_key : (t : PropertyKey) (k : Numbers) → Agrees [] (entered_property_key (link_property_key (Marked file) t k).tree) (link_property_key (Marked file) t k).next.counts k.counts (walk_property_key (unmarked_property_key t))
-    agrees_property_key (NameKey text) k = agrees_none
-    agrees_property_key (StringKey spelled) k = agrees_none
-    agrees_property_key (NumberKey text) k = agrees_none
-    agrees_property_key (ComputedKey e) k = agrees_expr e false k
+    agrees_property_key : (h : Heed) (t : PropertyKey) (k : Numbers) → Agrees [] (entered_property_key (link_property_key (Within file h) t k).tree) (link_property_key (Within file h) t k).next.counts k.counts (walk_property_key h (unmarked_property_key t))
+    agrees_property_key h (NameKey text) k = agrees_none
+    agrees_property_key h (StringKey spelled) k = agrees_none
+    agrees_property_key h (NumberKey text) k = agrees_none
+    agrees_property_key h (ComputedKey e) k = (alone_expr h e (agrees_expr (heed h (expr_place e)) e Alone k))
 
-    agrees_concise_body : (t : ConciseBody) (k : Numbers) → Agrees [] (entered_concise_body (link_concise_body (Marked file) t k).tree) (link_concise_body (Marked file) t k).next.counts k.counts (walk_concise_body (unmarked_concise_body t))
-    agrees_concise_body (ExpressionBody e) k = agrees_same (ap (λ p. counted p ++ walk_expr false (unmarked_expr e)) (sym (bare_unmarked e)))
-        (agrees_counted_expr (bare_place e) (link_expr (Marked file) false e) k (λ j. bare_linked file false e j) (λ j. agrees_expr e false j))
-    agrees_concise_body (BlockBody body) k = agrees_function_body body k
+    agrees_concise_body : (h : Heed) (t : ConciseBody) (k : Numbers) → Agrees [] (entered_concise_body (link_concise_body (Within file h) t k).tree) (link_concise_body (Within file h) t k).next.counts k.counts (walk_concise_body h (unmarked_concise_body t))
+    agrees_concise_body h (ExpressionBody e) k = agrees_same (ap (λ l. l ++ walk_expr (heed h (expr_place (unmarked_expr e))) false (unmarked_expr e)) (sym (counted_same h e)))
+        (agrees_counted_expr (heed h (expr_place e)) (bare_place e) (link_expr (at_expr (Within file h) e) Alone e) k (λ j. bare_linked (at_expr (Within file h) e) Alone e j) (λ j. alone_expr h e (agrees_expr (heed h (expr_place e)) e Alone j)))
+    agrees_concise_body h (BlockBody body) k = agrees_function_body h body k
 
-    agrees_for_init : (t : ForInit) (k : Numbers) → Agrees [] (entered_for_init (link_for_init (Marked file) t k).tree) (link_for_init (Marked file) t k).next.counts k.counts (walk_for_init (unmarked_for_init t))
-    agrees_for_init NoInit k = agrees_none
-    agrees_for_init (InitDeclaration kind declarators) k = agrees_declarators declarators k
-    agrees_for_init (InitExpression e) k = agrees_expr e false k
+    agrees_for_init : (h : Heed) (t : ForInit) (k : Numbers) → Agrees [] (entered_for_init (link_for_init (Within file h) t k).tree) (link_for_init (Within file h) t k).next.counts k.counts (walk_for_init h (unmarked_for_init t))
+    agrees_for_init h NoInit k = agrees_none
+    agrees_for_init h (InitDeclaration kind declarators) k = agrees_declarators h declarators k
+    agrees_for_init h (InitExpression e) k = (alone_expr h e (agrees_expr (heed h (expr_place e)) e Alone k))
 
-    agrees_for_target : (t : ForTarget) (k : Numbers) → Agrees [] (entered_for_target (link_for_target (Marked file) t k).tree) (link_for_target (Marked file) t k).next.counts k.counts (walk_for_target (unmarked_for_target t))
-    agrees_for_target (TargetDeclaration kind pattern) k = agrees_none
-    agrees_for_target (TargetExpression e) k = agrees_expr e false k
+    agrees_for_target : (h : Heed) (t : ForTarget) (k : Numbers) → Agrees [] (entered_for_target (link_for_target (Within file h) t k).tree) (link_for_target (Within file h) t k).next.counts k.counts (walk_for_target h (unmarked_for_target t))
+    agrees_for_target h (TargetDeclaration kind pattern) k = agrees_none
+    agrees_for_target h (TargetExpression e) k = (alone_expr h e (agrees_expr (heed h (expr_place e)) e Alone k))
 
-    agrees_template_part : (t : TemplatePart) (k : Numbers) → Agrees [] (entered_template_part (link_template_part (Marked file) t k).tree) (link_template_part (Marked file) t k).next.counts k.counts (walk_template_part (unmarked_template_part t))
-    agrees_template_part (MakeTemplatePart e spelled) k = agrees_expr e false k
+    agrees_template_part : (h : Heed) (t : TemplatePart) (k : Numbers) → Agrees [] (entered_template_part (link_template_part (Within file h) t k).tree) (link_template_part (Within file h) t k).next.counts k.counts (walk_template_part h (unmarked_template_part t))
+    agrees_template_part h (MakeTemplatePart e spelled) k = (alone_expr h e (agrees_expr (heed h (expr_place e)) e Alone k))
 
-    agrees_function : (t : Function) (loc : Option Loc) (name : Option Identifier) (k : Numbers) → Agrees [] (entered_function (link_function (Marked file) loc name t k).tree) (link_function (Marked file) loc name t k).next.counts k.counts (counted_function loc name (body_place (unmarked_function t)) ++ walk_function (unmarked_function t))
-    agrees_function (MakeFunction number params body) loc name k =
+    agrees_function : (h : Heed) (t : Function) (loc : Option Loc) (name : Option Identifier) (k : Numbers) → Agrees [] (entered_function (link_function (Within file h) loc name t k).tree) (link_function (Within file h) loc name t k).next.counts k.counts (counted_function (heeded_place h loc) name (body_place (unmarked_function t)) ++ walk_function h (unmarked_function t))
+    agrees_function h (MakeFunction number params body) loc name k =
+        let m = Within file h in
         let place = function_place loc name (braced_place body) in
-        let j = after_marks (Marked file) construct_kind.Function place k in
-        let p = link_params (Marked file) params (after_code j) in
-        let rest = agrees_function_body body p.next in
-        agrees_same (ap (λ b. counted_function loc name b ++ (walk_params (unmarked_params params) ++ walk_function_body (unmarked_function_body body))) (sym (braced_unmarked body)))
-        (agrees_own (counted_function loc name (braced_place body)) (after_function file loc name (braced_place body) k) (entry_function loc name (braced_place body) k)
-        (agrees_both (agrees_params params (after_code j)) (agrees_entered (λ such. many_body such (marks (Marked file) construct_kind.Function place k) (link_function_body (Marked file) body p.next).tree (braced_linked file body p.next)) rest)))
+        let j = after_marks m construct_kind.Function place k in
+        let p = link_params m params (after_code j) in
+        agrees_same (ap (λ b. counted_function (heeded_place h loc) name b ++ (walk_params h (unmarked_params params) ++ walk_function_body h (unmarked_function_body body))) (sym (braced_unmarked body)))
+        (agrees_own (counted_function (heeded_place h loc) name (braced_place body)) (after_function file h loc name (braced_place body) k) (entry_function h loc name (braced_place body) k)
+        (agrees_both (agrees_params h params (after_code j))
+        (agrees_entered (λ such. many_body such (marks m construct_kind.Function place k) (link_function_body m body p.next).tree (braced_linked m body p.next)) (agrees_function_body h body p.next))))
 
-    agrees_function_body : (t : FunctionBody) (k : Numbers) → Agrees [] (entered_function_body (link_function_body (Marked file) t k).tree) (link_function_body (Marked file) t k).next.counts k.counts (walk_function_body (unmarked_function_body t))
-    agrees_function_body (MakeFunctionBody loc xs) k = agrees_stmts xs k
-    agrees_function_body (EnteredBody n body) k = agrees_function_body body k
+    agrees_function_body : (h : Heed) (t : FunctionBody) (k : Numbers) → Agrees [] (entered_function_body (link_function_body (Within file h) t k).tree) (link_function_body (Within file h) t k).next.counts k.counts (walk_function_body h (unmarked_function_body t))
+    agrees_function_body h (MakeFunctionBody loc xs) k = agrees_stmts h xs k
+    agrees_function_body h (EnteredBody n body) k = agrees_function_body h body k
 
-    agrees_param : (t : Param) (k : Numbers) → Agrees [] (entered_param (link_param (Marked file) t k).tree) (link_param (Marked file) t k).next.counts k.counts (walk_param (unmarked_param t))
-    agrees_param (MakeParam loc pattern none_expr) k = agrees_none
-    agrees_param (MakeParam loc pattern (some_expr e)) k =
-        let j = after_marks (Marked file) construct_kind.Branch loc k in
-        agrees_own (branch branch_kind.Default loc (bare_place (unmarked_expr e) ∷ [])) (after_branch file branch_kind.Default loc (bare_place (unmarked_expr e) ∷ []) k) (entry_default loc (bare_place (unmarked_expr e)) k)
-        (agrees_entered (λ such. many_expr such (marks (Marked file) construct_kind.Branch loc k) 0 (link_expr (Marked file) false e j).tree (bare_linked file false e j ∙ sym (bare_unmarked e))) (agrees_expr e false j))
+    agrees_param : (h : Heed) (t : Param) (k : Numbers) → Agrees [] (entered_param (link_param (Within file h) t k).tree) (link_param (Within file h) t k).next.counts k.counts (walk_param h (unmarked_param t))
+    agrees_param h (MakeParam loc pattern none_expr) k = agrees_none
+    agrees_param h (MakeParam loc pattern (some_expr e)) k =
+        let m = Within file h in
+        let place = heeded_place h loc in
+        let j = after_marks_at construct_kind.Branch place k in
+        let b = marks_at file construct_kind.Branch place k in
+        let g = heed h (expr_place e) in
+        agrees_same (ap (λ l. branch branch_kind.Default place l ++ walk_expr (heed h (expr_place (unmarked_expr e))) false (unmarked_expr e)) (sym (expr_paths_same h e)))
+        (agrees_own (branch branch_kind.Default place (expr_paths h e)) (after_branch branch_kind.Default place (expr_paths h e) k)
+        (λ such. entry_one b (bare_place e) g such ∙ entry_branch branch_kind.Default place (expr_paths h e) k such)
+        (agrees_entered (λ such. many_expr such (by_path (Within file g) b) 0 (link_expr (Within file g) Alone e j).tree (bare_linked (Within file g) Alone e j)) (alone_expr h e (agrees_expr g e Alone j))))
 
-    agrees_declarator : (t : Declarator) (k : Numbers) → Agrees [] (entered_declarator (link_declarator (Marked file) t k).tree) (link_declarator (Marked file) t k).next.counts k.counts (walk_declarator (unmarked_declarator t))
-    agrees_declarator (MakeDeclarator loc pattern none_expr) k = agrees_none
-    agrees_declarator (MakeDeclarator loc pattern (some_expr e)) k = agrees_same (ap (λ p. counted p ++ walk_expr false (unmarked_expr e)) (sym (bare_unmarked e)))
-        (agrees_counted_expr (bare_place e) (link_expr (Marked file) false e) k (λ j. bare_linked file false e j) (λ j. agrees_expr e false j))
+    agrees_declarator : (h : Heed) (t : Declarator) (k : Numbers) → Agrees [] (entered_declarator (link_declarator (Within file h) t k).tree) (link_declarator (Within file h) t k).next.counts k.counts (walk_declarator h (unmarked_declarator t))
+    agrees_declarator h (MakeDeclarator loc pattern none_expr) k = agrees_none
+    agrees_declarator h (MakeDeclarator loc pattern (some_expr e)) k = agrees_same (ap (λ l. l ++ walk_expr (heed h (expr_place (unmarked_expr e))) false (unmarked_expr e)) (sym (counted_same h e)))
+        (agrees_counted_expr (heed h (expr_place e)) (bare_place e) (link_expr (at_expr (Within file h) e) Alone e) k (λ j. bare_linked (at_expr (Within file h) e) Alone e j) (λ j. alone_expr h e (agrees_expr (heed h (expr_place e)) e Alone j)))
 
-    agrees_case : (t : Case) (k : Numbers) → Agrees [] (entered_case (link_case (Marked file) t k).tree) (link_case (Marked file) t k).next.counts k.counts (walk_case (unmarked_case t))
-    agrees_case (MakeCase loc e xs) k = agrees_two (agrees_expr_if e k) (agrees_stmts xs (link_expr_if (Marked file) e k).next)
-    agrees_case (EnteredCase n x) k = agrees_case x k
+    agrees_case : (h : Heed) (t : Case) (k : Numbers) → Agrees [] (entered_case (link_case (Within file h) t k).tree) (link_case (Within file h) t k).next.counts k.counts (walk_case h (unmarked_case t))
+    agrees_case h (MakeCase loc e xs) k = agrees_two (agrees_expr_if h e k) (agrees_stmts h xs (link_expr_if (Within file h) e k).next)
+    agrees_case h (EnteredCase n x) k = agrees_case h x k
 
-    agrees_catch : (t : Catch) (k : Numbers) → Agrees [] (entered_catch (link_catch (Marked file) t k).tree) (link_catch (Marked file) t k).next.counts k.counts (walk_catch (unmarked_catch t))
-    agrees_catch (MakeCatch none_pattern xs) k = agrees_stmts xs k
-    agrees_catch (MakeCatch (some_pattern pattern) xs) k = agrees_stmts xs k
+    agrees_catch : (h : Heed) (t : Catch) (k : Numbers) → Agrees [] (entered_catch (link_catch (Within file h) t k).tree) (link_catch (Within file h) t k).next.counts k.counts (walk_catch h (unmarked_catch t))
+    agrees_catch h (MakeCatch none_pattern xs) k = agrees_stmts h xs k
+    agrees_catch h (MakeCatch (some_pattern pattern) xs) k = agrees_stmts h xs k
 
-    agrees_expr_if : (t : MaybeExpr) (k : Numbers) → Agrees [] (entered_expr_if (link_expr_if (Marked file) t k).tree) (link_expr_if (Marked file) t k).next.counts k.counts (walk_expr_if (unmarked_expr_if t))
-    agrees_expr_if none_expr k = agrees_none
-    agrees_expr_if (some_expr e) k = agrees_expr e false k
+    agrees_expr_if : (h : Heed) (t : MaybeExpr) (k : Numbers) → Agrees [] (entered_expr_if (link_expr_if (Within file h) t k).tree) (link_expr_if (Within file h) t k).next.counts k.counts (walk_expr_if h (unmarked_expr_if t))
+    agrees_expr_if h none_expr k = agrees_none
+    agrees_expr_if h (some_expr e) k = (alone_expr h e (agrees_expr (heed h (expr_place e)) e Alone k))
 
-    agrees_stmt_if : (t : MaybeStmt) (k : Numbers) → Agrees [] (entered_stmt_if (link_stmt_if (Marked file) t k).tree) (link_stmt_if (Marked file) t k).next.counts k.counts (walk_stmt_if (unmarked_stmt_if t))
-    agrees_stmt_if none_stmt k = agrees_none
-    agrees_stmt_if (some_stmt x) k = agrees_stmt x (stmt_place (link_stmt (Marked file) x k).tree) k
-    agrees_stmt_if (entered_none n) k = agrees_none
+    agrees_stmt_if : (h : Heed) (t : MaybeStmt) (k : Numbers) → Agrees [] (entered_stmt_if (link_stmt_if (Within file (heed h (stmt_if_place t))) t k).tree) (link_stmt_if (Within file (heed h (stmt_if_place t))) t k).next.counts k.counts (walk_stmt_if h (unmarked_stmt_if t))
+    agrees_stmt_if h none_stmt k = agrees_none
+    agrees_stmt_if h (some_stmt x) k = here_stmt h x (agrees_stmt (heed h (stmt_place x)) x (stmt_place (link_stmt (at_stmt (Within file h) x) x k).tree) k)
+    agrees_stmt_if h (entered_none n) k = agrees_none
 
-    agrees_exprs : (t : Exprs) (k : Numbers) → Agrees [] (entered_exprs (link_exprs (Marked file) t k).tree) (link_exprs (Marked file) t k).next.counts k.counts (walk_exprs (unmarked_exprs t))
-    agrees_exprs no_expr k = agrees_none
-    agrees_exprs (more_expr x xs) k = agrees_two (agrees_expr x false k) (agrees_exprs xs (link_expr (Marked file) false x k).next)
+    agrees_exprs : (h : Heed) (t : Exprs) (k : Numbers) → Agrees [] (entered_exprs (link_exprs (Within file h) t k).tree) (link_exprs (Within file h) t k).next.counts k.counts (walk_exprs h (unmarked_exprs t))
+    agrees_exprs h no_expr k = agrees_none
+    agrees_exprs h (more_expr x xs) k = agrees_two ((alone_expr h x (agrees_expr (heed h (expr_place x)) x Alone k))) (agrees_exprs h xs (link_expr (at_expr (Within file h) x) Alone x k).next)
 
-    agrees_template_parts : (t : TemplateParts) (k : Numbers) → Agrees [] (entered_template_parts (link_template_parts (Marked file) t k).tree) (link_template_parts (Marked file) t k).next.counts k.counts (walk_template_parts (unmarked_template_parts t))
-    agrees_template_parts no_template_part k = agrees_none
-    agrees_template_parts (more_template_part x xs) k = agrees_two (agrees_template_part x k) (agrees_template_parts xs (link_template_part (Marked file) x k).next)
+    agrees_template_parts : (h : Heed) (t : TemplateParts) (k : Numbers) → Agrees [] (entered_template_parts (link_template_parts (Within file h) t k).tree) (link_template_parts (Within file h) t k).next.counts k.counts (walk_template_parts h (unmarked_template_parts t))
+    agrees_template_parts h no_template_part k = agrees_none
+    agrees_template_parts h (more_template_part x xs) k = agrees_two (agrees_template_part h x k) (agrees_template_parts h xs (link_template_part (Within file h) x k).next)
 
-    agrees_properties : (t : Properties) (k : Numbers) → Agrees [] (entered_properties (link_properties (Marked file) t k).tree) (link_properties (Marked file) t k).next.counts k.counts (walk_properties (unmarked_properties t))
-    agrees_properties no_property k = agrees_none
-    agrees_properties (more_property x xs) k = agrees_two (agrees_property x k) (agrees_properties xs (link_property (Marked file) x k).next)
+    agrees_properties : (h : Heed) (t : Properties) (k : Numbers) → Agrees [] (entered_properties (link_properties (Within file h) t k).tree) (link_properties (Within file h) t k).next.counts k.counts (walk_properties h (unmarked_properties t))
+    agrees_properties h no_property k = agrees_none
+    agrees_properties h (more_property x xs) k = agrees_two ((here_property h x (agrees_property (heed h (property_place x)) x k))) (agrees_properties h xs (link_property (at_property (Within file h) x) x k).next)
 
-    agrees_params : (t : Params) (k : Numbers) → Agrees [] (entered_params (link_params (Marked file) t k).tree) (link_params (Marked file) t k).next.counts k.counts (walk_params (unmarked_params t))
-    agrees_params no_param k = agrees_none
-    agrees_params (more_param x xs) k = agrees_two (agrees_param x k) (agrees_params xs (link_param (Marked file) x k).next)
+    agrees_params : (h : Heed) (t : Params) (k : Numbers) → Agrees [] (entered_params (link_params (Within file h) t k).tree) (link_params (Within file h) t k).next.counts k.counts (walk_params h (unmarked_params t))
+    agrees_params h no_param k = agrees_none
+    agrees_params h (more_param x xs) k = agrees_two ((here_param h x (agrees_param (heed h (param_place x)) x k))) (agrees_params h xs (link_param (at_param (Within file h) x) x k).next)
 
-    agrees_stmts : (t : Stmts) (k : Numbers) → Agrees [] (entered_stmts (link_stmts (Marked file) t k).tree) (link_stmts (Marked file) t k).next.counts k.counts (walk_stmts (unmarked_stmts t))
-    agrees_stmts no_stmt k = agrees_none
-    agrees_stmts (more_stmt x xs) k = agrees_two (agrees_stmt x None k) (agrees_stmts xs (link_stmt (Marked file) x k).next)
+    agrees_stmts : (h : Heed) (t : Stmts) (k : Numbers) → Agrees [] (entered_stmts (link_stmts (Within file h) t k).tree) (link_stmts (Within file h) t k).next.counts k.counts (walk_stmts h (unmarked_stmts t))
+    agrees_stmts h no_stmt k = agrees_none
+    agrees_stmts h (more_stmt x xs) k = agrees_two ((here_stmt h x (agrees_stmt (heed h (stmt_place x)) x None k))) (agrees_stmts h xs (link_stmt (at_stmt (Within file h) x) x k).next)
 
-    agrees_declarators : (t : Declarators) (k : Numbers) → Agrees [] (entered_declarators (link_declarators (Marked file) t k).tree) (link_declarators (Marked file) t k).next.counts k.counts (walk_declarators (unmarked_declarators t))
-    agrees_declarators no_declarator k = agrees_none
-    agrees_declarators (more_declarator x xs) k = agrees_two (agrees_declarator x k) (agrees_declarators xs (link_declarator (Marked file) x k).next)
+    agrees_declarators : (h : Heed) (t : Declarators) (k : Numbers) → Agrees [] (entered_declarators (link_declarators (Within file h) t k).tree) (link_declarators (Within file h) t k).next.counts k.counts (walk_declarators h (unmarked_declarators t))
+    agrees_declarators h no_declarator k = agrees_none
+    agrees_declarators h (more_declarator x xs) k = agrees_two ((here_declarator h x (agrees_declarator (heed h (declarator_place x)) x k))) (agrees_declarators h xs (link_declarator (at_declarator (Within file h) x) x k).next)
 
-    agrees_cases : (t : Cases) (b : Marks) (i : ℕ) (k : Numbers) → Agrees (paths_of b i (case_places (unmarked_cases t))) (entered_cases (link_cases (Marked file) b i t k).tree) (link_cases (Marked file) b i t k).next.counts k.counts (walk_cases (unmarked_cases t))
-    agrees_cases no_case Uncounted i k = agrees_none
-    agrees_cases no_case (Counted g kind number) i k = agrees_none
-    agrees_cases (more_case x xs) Uncounted i k = agrees_two (agrees_case x k) (agrees_cases xs Uncounted (suc i) (link_case (Marked file) x k).next)
-    agrees_cases (more_case x xs) (Counted g kind number) i k =
-        agrees_both {en = placed (mark g kind number i) (case_place (unmarked_case x)) ∷ []} {ms = entered_case (EnteredCase (mark g kind number i) (link_case (Marked file) x k).tree)} (agrees_entered (λ such. many_case such (Counted g kind number) i (link_case (Marked file) x k).tree (case_linked file x k)) (agrees_case x k))
-        (agrees_cases xs (Counted g kind number) (suc i) (link_case (Marked file) x k).next)
+    agrees_cases : (h : Heed) (t : Cases) (b : Marks) (i : ℕ) (k : Numbers) → Agrees (paths_of b i (case_paths h t)) (entered_cases (link_cases (Within file h) b i t k).tree) (link_cases (Within file h) b i t k).next.counts k.counts (walk_cases h (unmarked_cases t))
+    agrees_cases h no_case Uncounted i k = agrees_none
+    agrees_cases h no_case (Counted g kind number) i k = agrees_none
+    agrees_cases h (more_case x xs) b i k =
+        let g = heed h (case_place x) in
+        let m = Within file g in
+        let a = link_case m x k in
+        agrees_entry (λ such. let p = part_paths such file g b i (case_place x) (case_paths h xs) in
+        let q = many_append such (entry_of (by_path m b) i (case_place x)) (paths_of b (past_path m i) (case_paths h xs)) in omega (arith, p, q))
+        (agrees_both (agrees_entered (λ such. many_case such (by_path m b) i a.tree (case_linked m x k)) (here_case h x (agrees_case g x k))) (agrees_cases h xs b (past_path m i) a.next))
 
 -- the marks of a counted file are those of the constructs of the file without its own marks
 pub marks_enter : MarksEnter
 marks_enter file (MakeFile body comments) k such =
-    let p = (agrees_stmts file body k).same such in
-    let q = ap (how_many such) (numbered_named file 0 k.counts (walk_stmts (unmarked_stmts body))) in
+    let h = heed_comments comments in
+    let p = (agrees_stmts file h body k).same such in
+    let q = ap (how_many such) (numbered_named file 0 k.counts (walk_stmts h (unmarked_stmts body))) in
     omega (arith, p, q)
 
 pub marks_constructs : MarksConstructs

@@ -9,6 +9,7 @@ mod Once
 mod Read
 mod SaidLinked
 mod Says
+mod Standing
 mod Thin
 mod ThinForms
 mod Uncounted

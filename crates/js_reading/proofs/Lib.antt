@@ -60,5 +60,7 @@ pub mod ForGoals
 pub mod LeftOut
 pub mod Ended
 pub mod Finishing
+pub mod LeftPlaced
 pub mod Placed
 pub mod PlacedTexts
+pub mod Unhinted

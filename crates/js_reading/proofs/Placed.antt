@@ -11,10 +11,11 @@ use Rattle.js_tree.specs.declared.operators.AssignmentOperator.TheVariants as as
 use Rattle.js_tree.specs.declared.construct.Construct.{Construct}
 use Rattle.js_tree.specs.Plain.{Expr, Exprs, no_expr, more_expr, Stmt, Stmts, no_stmt, more_stmt, MaybeExpr, none_expr, some_expr}
 use Rattle.js_tree.specs.Plain as tree
-use Rattle.js_tree.specs.Places.{bare_place, stmt_place, leaf_places, case_place, case_places, braced_place, concise_place}
+use Rattle.js_tree.specs.Places.{bare_place, stmt_place, case_place, braced_place, concise_place}
 use Rattle.js_walk.specs.Part as part
 use Rattle.js_walk.specs.Walk.{visit, within_expr, within_exprs, within_expr_if, within_stmts, within_property, within_property_key, within_properties, within_param, within_params, within_function_body, within_concise_body, within_template_part, within_template_parts, within_declarators, within_case, within_cases, within_for_init}
-use Rattle.js_walk.specs.Constructs.{own_construct, chained_in, counted, function_at, declared_place, written_name, counted_function, constructs_expr, constructs_stmt, constructs_declarator}
+use Rattle.js_walk.specs.Constructs.{counted, function_at, declared_place, written_name, counted_function}
+use Rattle.js_reading.proofs.Unhinted.{own_construct, chained_in, case_places, leaf_places, constructs_expr, constructs_stmt, constructs_declarator}
 use Rattle.js_reading.specs.Level.{assignment}
 use Rattle.js_reading.specs.Spans.{through}
 use Rattle.js_reading.specs.Placed.{IsPlaced, IsPlacedIf, ArePathsPlaced, ArePlaced}
@@ -29,11 +30,11 @@ pub both : (xs ys : List Construct) → ArePlaced xs → ArePlaced ys → ArePla
 both [] ys h k = k
 both (x ∷ xs) ys h k = (h.0, both xs ys h.1 k)
 
-second : (xs ys : List Construct) → ArePlaced (xs ++ ys) → ArePlaced ys
+pub second : (xs ys : List Construct) → ArePlaced (xs ++ ys) → ArePlaced ys
 second [] ys h = h
 second (x ∷ xs) ys h = second xs ys h.1
 
-both_paths : (xs ys : List (Option Loc)) → ArePathsPlaced xs → ArePathsPlaced ys → ArePathsPlaced (xs ++ ys)
+pub both_paths : (xs ys : List (Option Loc)) → ArePathsPlaced xs → ArePathsPlaced ys → ArePathsPlaced (xs ++ ys)
 both_paths [] ys h k = k
 both_paths (x ∷ xs) ys h k = (h.0, both_paths xs ys h.1 k)
 

@@ -7,8 +7,11 @@ use Rattle.js_tree.specs.declared.construct.Construct.{Construct}
 use Rattle.js_tree.specs.declared.construct.Construct.TheVariants as construct
 use Rattle.js_tree.specs.Plain.{Expr, Exprs, Stmt, Stmts, File, MakeFile}
 use Rattle.js_tree.specs.Plain as tree
-use Rattle.js_walk.specs.Walk.{walk_file}
-use Rattle.js_walk.specs.Constructs.{own_construct, chained_in, constructs_stmt, constructs_file, all_named}
+use Rattle.js_walk.specs.Walk.{walk_file, within_stmts}
+use Rattle.js_tree.specs.Hints.{heed_comments}
+use Rattle.js_walk.specs.Constructs.{own_construct as own_left, tell, told, constructs_file, all_named}
+use Rattle.js_reading.proofs.Unhinted.{own_construct, chained_in, constructs_stmt}
+use Rattle.js_reading.proofs.LeftPlaced.{in_stmts_left}
 use Rattle.js_text.specs.Place.{Place}
 use Rattle.js_text.specs.Position.{position_of}
 use Rattle.js_text.specs.declared.goal.Goal.{Goal}
@@ -251,9 +254,11 @@ names_placed before (construct.Statement loc ∷ xs) h = (h.0, names_placed befo
 names_placed before (construct.Function name declared body ∷ xs) h = (h.0, names_placed (before + 1) xs h.1)
 names_placed before (construct.Branch kind loc paths ∷ xs) h = (h.0, names_placed before xs h.1)
 
--- nor do comments
-walked_so : (tree : File) → walk_file own_construct chained_in (without_comments tree) false ≡ walk_file own_construct chained_in tree false
-walked_so (MakeFile body comments) = refl
+-- nor do comments, but that they take parts out
+left_placed : (tree : File) → ArePlaced (walk_file own_construct chained_in (without_comments tree) false) → ArePlaced (constructs_file tree)
+left_placed (MakeFile body comments) h =
+    let left = heed_comments comments in
+    names_placed 0 (within_stmts own_left tell body (told left)) (in_stmts_left left body h)
 
 pub reads_placed : (text : List ℕ) (tree : File) → Reads text tree → ArePlaced (constructs_file tree)
-reads_placed text tree reads = names_placed 0 (walk_file own_construct chained_in tree false) (subst ArePlaced (walked_so tree) (sentence_placed reads.sentence (lexed_placed reads.lexed)))
+reads_placed text tree reads = left_placed tree (sentence_placed reads.sentence (lexed_placed reads.lexed))

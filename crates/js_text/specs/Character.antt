@@ -1,14 +1,9 @@
 -- The classes of characters in a source text (ECMA-262, 12).
 use Rattle.std.specs.Prelude.{ℕ, ◌==◌, Bool, false, ◌||◌, List, [], ◌∷◌}
-use Rattle.std.specs.Int.{is_in_range}
 use Rattle.std.specs.Char.{is_ascii_digit}
 use Rattle.unicode_ident.specs.Ident.{is_xid_start, is_xid_continue}
+pub use Rattle.js_tree.specs.Blank.{is_white_space}
 use Rattle.js_text.specs.Position.{is_line_terminator}
-
--- white space (12.2): TAB, VT, FF, ZWNBSP, and the characters of the category Space_Separator
-abbrev pub is_white_space : ℕ → Bool
-is_white_space c = (c == 0x09) || (c == 0x0B) || (c == 0x0C) || (c == 0x20) || (c == 0xA0) || (c == 0xFEFF)
-    || (c == 0x1680) || is_in_range 0x2000 0x200A c || (c == 0x202F) || (c == 0x205F) || (c == 0x3000)
 
 -- white space and line terminators (12.2, 12.3)
 unfoldable pub is_gap : ℕ → Bool

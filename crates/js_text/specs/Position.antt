@@ -1,6 +1,7 @@
 -- The line and the column of a place in a text.
 -- Line terminators: ECMA-262, 12.3. Code units of UTF-16: ECMA-262, 11.1.1.
-use Rattle.std.specs.Prelude.{ℕ, ◌+◌, ◌-◌, ◌^◌, ◌==◌, Bool, false, not, ◌&&◌, ◌||◌, List, [], ◌∷◌, ◌++◌, if◌then◌else◌, nat_lt, min, sum_by}
+use Rattle.std.specs.Prelude.{ℕ, ◌+◌, ◌-◌, ◌^◌, ◌==◌, Bool, false, not, ◌&&◌, List, [], ◌∷◌, ◌++◌, if◌then◌else◌, nat_lt, min, sum_by}
+pub use Rattle.js_tree.specs.Blank.{is_line_terminator}
 use Rattle.js_tree.specs.declared.place.Pos.{Pos}
 use Rattle.std.specs.Str.{chars}
 use Rattle.js_text.specs.Place.{Place, place_at}
@@ -9,10 +10,6 @@ use Rattle.js_text.specs.Place.{Place, place_at}
 abbrev pub begins_with_line_feed : List ℕ → Bool
 begins_with_line_feed [] = false
 begins_with_line_feed (c ∷ cs) = c == 0x0A
-
--- LF, CR, LINE SEPARATOR, PARAGRAPH SEPARATOR
-abbrev pub is_line_terminator : ℕ → Bool
-is_line_terminator c = (c == 0x0A) || (c == 0x0D) || (c == 0x2028) || (c == 0x2029)
 
 -- a line ends with this character where these follow: CR and LF end one line, after the LF
 abbrev pub ends_line : ℕ → List ℕ → Bool

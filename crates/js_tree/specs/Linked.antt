@@ -1,13 +1,17 @@
 -- A tree with its marks and its functions' numbers, made once from the tree as it is read: by cases, and in the order of the
 -- text. The numbers of constructs go by kind from 0 in each file, a parent before what is in it; those of functions go through the
--- whole program.
-use Rattle.std.specs.Prelude.{ℕ, suc, ◌+◌, Bool, true, false, Option, Some, None, length}
+-- whole program. What a hint takes out has no mark and no number, but its functions keep theirs in the program.
+use Rattle.std.specs.Prelude.{ℕ, suc, ◌+◌, List, Option, Some, None, length}
 use Rattle.js_tree.specs.declared.place.Loc.{Loc}
 use Rattle.js_tree.specs.declared.construct.ConstructKind.{ConstructKind}
 use Rattle.js_tree.specs.declared.construct.ConstructKind.TheVariants as construct_kind
+use Rattle.js_tree.specs.declared.words.Comment.{Comment}
 use Rattle.js_tree.specs.declared.words.Identifier.{Identifier}
+use Rattle.js_tree.specs.declared.hint.Hint.{Hint}
+use Rattle.js_tree.specs.declared.hint.Hint.TheVariants as hint
+use Rattle.js_tree.specs.Hints.{Heed, Ignored, Heeding, no_hints, heed, heed_arm, heed_comments, heeded_place, leaf_paths}
 use Rattle.js_tree.specs.Mark.{Mark}
-use Rattle.js_tree.specs.Places.{bare_place, concise_place, braced_place, leaf_places}
+use Rattle.js_tree.specs.Places.{bare_place, expr_place, stmt_place, stmt_if_place, property_place, param_place, declarator_place, case_place, concise_place, braced_place}
 use Rattle.js_tree.specs.Plain.{Expr, IdentifierReference, This, NullLiteral, BooleanLiteral, NumericLiteral, StringLiteral, ArrayLiteral, ObjectLiteral, FunctionExpression, ArrowFunction, RegularExpressionLiteral, TemplateLiteral, Parenthesized, NamedMember, ComputedMember, New, Call, PostfixUpdate, PrefixUpdate, Unary, Binary, Logical, Conditional, Assignment, Comma, Entered}
 use Rattle.js_tree.specs.Plain.{Stmt, Directive, Block, VariableDeclaration, Empty, Expression, If, DoWhile, While, For, ForIn, ForOf, Continue, Break, Return, Switch, Labelled, Throw, TryCatch, TryFinally, TryCatchFinally, Debugger, FunctionDeclaration, EnteredStmt}
 use Rattle.js_tree.specs.Plain.{Property, Shorthand, KeyValue, Method}
@@ -33,10 +37,50 @@ use Rattle.js_tree.specs.Plain.{Declarators, no_declarator, more_declarator}
 use Rattle.js_tree.specs.Plain.{Cases, no_case, more_case}
 use Rattle.js_tree.specs.Plain.{File, MakeFile}
 
--- whether constructs are entered: in no file that isn't counted; in a counted one, by its number in the program
+-- whether constructs are entered: in no file that isn't counted; in a counted one, by its number in the program and by what its
+-- hints have left here
 pub data Marking : Type 0 where
   Unmarked : Marking
-  Marked : (file : ℕ) → Marking
+  Within : (file : ℕ) → (left : Heed) → Marking
+
+-- a counted file, as long as its comments aren't looked at
+abbrev pub Marked : ℕ → Marking
+Marked file = Within file no_hints
+
+abbrev pub with_comments : Marking → List Comment → Marking
+with_comments Unmarked comments = Unmarked
+with_comments (Within file left) comments = Within file (heed_comments comments)
+
+-- in a node that stands here, with its parentheses
+abbrev pub at : Marking → Option Loc → Marking
+at Unmarked place = Unmarked
+at (Within file left) place = Within file (heed left place)
+
+abbrev pub at_expr : Marking → Expr → Marking
+at_expr m e = at m (expr_place e)
+
+abbrev pub at_stmt : Marking → Stmt → Marking
+at_stmt m x = at m (stmt_place x)
+
+abbrev pub at_stmt_if : Marking → MaybeStmt → Marking
+at_stmt_if m y = at m (stmt_if_place y)
+
+abbrev pub at_property : Marking → Property → Marking
+at_property m x = at m (property_place x)
+
+abbrev pub at_param : Marking → Param → Marking
+at_param m x = at m (param_place x)
+
+abbrev pub at_declarator : Marking → Declarator → Marking
+at_declarator m x = at m (declarator_place x)
+
+abbrev pub at_case : Marking → Case → Marking
+at_case m x = at m (case_place x)
+
+-- in an arm of an `if` statement that stands here
+abbrev pub at_arm : Hint → Marking → Option Loc → Marking
+at_arm which Unmarked place = Unmarked
+at_arm which (Within file left) place = Within file (heed_arm which left place)
 
 -- the next number of each kind of construct
 pub record Counts : Type 0 where
@@ -95,15 +139,21 @@ abbrev pub mark : ℕ → ConstructKind → ℕ → ℕ → Mark
 mark file kind number path = record { file = file; kind = kind; number = number; path = path }
 
 -- of a construct of a kind that stands here, and the numbers after it: what stands nowhere was inserted, and isn't counted
+abbrev pub marks_at : ℕ → ConstructKind → Option Loc → Numbers → Marks
+marks_at file kind None k = Uncounted
+marks_at file kind (Some loc) k = Counted file kind (next_of kind k.counts)
+
+abbrev pub after_marks_at : ConstructKind → Option Loc → Numbers → Numbers
+after_marks_at kind None k = k
+after_marks_at kind (Some loc) k = record { code = k.code; counts = after_one kind k.counts }
+
 abbrev pub marks : Marking → ConstructKind → Option Loc → Numbers → Marks
 marks Unmarked kind loc k = Uncounted
-marks (Marked file) kind None k = Uncounted
-marks (Marked file) kind (Some loc) k = Counted file kind (next_of kind k.counts)
+marks (Within file left) kind loc k = marks_at file kind (heeded_place left loc) k
 
 abbrev pub after_marks : Marking → ConstructKind → Option Loc → Numbers → Numbers
 after_marks Unmarked kind loc k = k
-after_marks (Marked file) kind None k = k
-after_marks (Marked file) kind (Some loc) k = record { code = k.code; counts = after_one kind k.counts }
+after_marks (Within file left) kind loc k = after_marks_at kind (heeded_place left loc) k
 
 -- a construct has its number before what is in it
 abbrev pub counting : {T : Type 0} → Marking → ConstructKind → Option Loc → (Marks → Numbers → Linked T) → Numbers → Linked T
@@ -133,12 +183,36 @@ abbrev pub enter_arm : Marks → ℕ → MaybeStmt → MaybeStmt
 enter_arm Uncounted path x = x
 enter_arm (Counted file kind number) path x = entered_arm (mark file kind number path) x
 
--- the leaves of a chain of logical operators, from left to right
-abbrev pub enter_leaves : Marks → ℕ → Expr → Expr
-enter_leaves b path (Logical loc operator left right) =
-    Logical loc operator (enter_leaves b path left) (enter_leaves b (path + length (leaf_places left)) right)
-enter_leaves b path (Parenthesized loc inner) = Parenthesized loc (enter_leaves b path inner)
-enter_leaves b path leaf = enter_expr b path leaf
+-- a part has no path where it is taken out, and the paths after it move up
+abbrev pub by_path : Marking → Marks → Marks
+by_path Unmarked b = Uncounted
+by_path (Within file Ignored) b = Uncounted
+by_path (Within file (Heeding hints)) b = b
+
+abbrev pub past_path : Marking → ℕ → ℕ
+past_path Unmarked path = path
+past_path (Within file Ignored) path = path
+past_path (Within file (Heeding hints)) path = suc path
+
+-- whether an expression is an operand of a chain of logical operators; then the chain's branch, and the next of its paths
+pub data Chain : Type 0 where
+  Alone : Chain
+  Operand : (branch : Marks) → (path : ℕ) → Chain
+
+-- an operand is a leaf, unless it is a chain or stands in parentheses: then the leaves are in it
+abbrev pub enter_leaf : Marks → ℕ → Expr → Expr
+enter_leaf b path (Logical loc operator left right) = Logical loc operator left right
+enter_leaf b path (Parenthesized loc inner) = Parenthesized loc inner
+enter_leaf b path leaf = enter_expr b path leaf
+
+abbrev pub operand : Marking → Chain → Linked Expr → Linked Expr
+operand m Alone e = e
+operand m (Operand b path) e = made (enter_leaf (by_path m b) path) e
+
+-- the next path after the leaves of an operand
+abbrev pub past_leaves : Marking → Expr → ℕ → ℕ
+past_leaves Unmarked e path = path
+past_leaves (Within file left) e path = path + length (leaf_paths left e)
 
 -- a function is entered where its body starts
 abbrev pub enter_body : Marks → FunctionBody → FunctionBody
@@ -185,62 +259,67 @@ labelled loc name x = Labelled loc name x
 -- ---- the forms
 
 abbrev mutual
-  -- an expression, where it is said whether it is an operand of a chain of logical operators
-  pub link_expr : Marking → Bool → Expr → Numbers → Linked Expr
-  link_expr m chained (IdentifierReference loc text) k = kept (IdentifierReference loc text) k
-  link_expr m chained (This loc) k = kept (This loc) k
-  link_expr m chained (NullLiteral loc) k = kept (NullLiteral loc) k
-  link_expr m chained (BooleanLiteral loc b) k = kept (BooleanLiteral loc b) k
-  link_expr m chained (NumericLiteral loc text) k = kept (NumericLiteral loc text) k
-  link_expr m chained (StringLiteral loc spelled) k = kept (StringLiteral loc spelled) k
-  link_expr m chained (ArrayLiteral loc es) k = made (ArrayLiteral loc) (link_exprs m es k)
-  link_expr m chained (ObjectLiteral loc properties) k = made (ObjectLiteral loc) (link_properties m properties k)
-  link_expr m chained (FunctionExpression loc name function) k = made (FunctionExpression loc name) (link_function m loc name function k)
-  link_expr m chained (ArrowFunction loc number params body) k =
+  -- an expression, where it is said whether it is an operand of a chain of logical operators; a node is told what is left in it
+  pub link_expr : Marking → Chain → Expr → Numbers → Linked Expr
+  link_expr m chain (IdentifierReference loc text) k = kept (IdentifierReference loc text) k
+  link_expr m chain (This loc) k = kept (This loc) k
+  link_expr m chain (NullLiteral loc) k = kept (NullLiteral loc) k
+  link_expr m chain (BooleanLiteral loc b) k = kept (BooleanLiteral loc b) k
+  link_expr m chain (NumericLiteral loc text) k = kept (NumericLiteral loc text) k
+  link_expr m chain (StringLiteral loc spelled) k = kept (StringLiteral loc spelled) k
+  link_expr m chain (ArrayLiteral loc es) k = made (ArrayLiteral loc) (link_exprs m es k)
+  link_expr m chain (ObjectLiteral loc properties) k = made (ObjectLiteral loc) (link_properties m properties k)
+  link_expr m chain (FunctionExpression loc name function) k = made (FunctionExpression loc name) (link_function m loc name function k)
+  link_expr m chain (ArrowFunction loc number params body) k =
       numbered_function m (function_place loc None (concise_place body)) (λ code c ps b. ArrowFunction loc code ps (enter_concise_body c b))
       (link_params m params) (link_concise_body m body) k
-  link_expr m chained (RegularExpressionLiteral loc text flags) k = kept (RegularExpressionLiteral loc text flags) k
-  link_expr m chained (TemplateLiteral loc spelled parts) k = made (TemplateLiteral loc spelled) (link_template_parts m parts k)
-  link_expr m chained (Parenthesized loc e) k = made (Parenthesized loc) (link_expr m chained e k)
-  link_expr m chained (NamedMember loc e text) k = made (λ e'. NamedMember loc e' text) (link_expr m false e k)
-  link_expr m chained (ComputedMember loc e f) k = two (ComputedMember loc) (link_expr m false e k) (link_expr m false f)
-  link_expr m chained (New loc e es) k = two (New loc) (link_expr m false e k) (link_exprs m es)
-  link_expr m chained (Call loc e es) k = two (Call loc) (link_expr m false e k) (link_exprs m es)
-  link_expr m chained (PostfixUpdate loc operator e) k = made (PostfixUpdate loc operator) (link_expr m false e k)
-  link_expr m chained (PrefixUpdate loc operator e) k = made (PrefixUpdate loc operator) (link_expr m false e k)
-  link_expr m chained (Unary loc operator e) k = made (Unary loc operator) (link_expr m false e k)
-  link_expr m chained (Binary loc operator e f) k = two (Binary loc operator) (link_expr m false e k) (link_expr m false f)
-  link_expr m true (Logical loc operator e f) k = two (Logical loc operator) (link_expr m true e k) (link_expr m true f)
-  link_expr m false (Logical loc operator e f) k = branched m loc
-      (λ b k. made (enter_leaves b 0) (two (Logical loc operator) (link_expr m true e k) (link_expr m true f))) k
-  link_expr m chained (Conditional loc e f g) k = branched m loc
-      (λ b k. three (λ e' f' g'. Conditional loc e' (enter_expr b 0 f') (enter_expr b 1 g'))
-      (link_expr m false e k) (link_expr m false f) (link_expr m false g)) k
-  link_expr m chained (Assignment loc operator e f) k = two (Assignment loc operator) (link_expr m false e k) (link_expr m false f)
-  link_expr m chained (Comma loc e f) k = two (Comma loc) (link_expr m false e k) (link_expr m false f)
-  link_expr m chained (Entered mark e) k = link_expr m chained e k
+  link_expr m chain (RegularExpressionLiteral loc text flags) k = kept (RegularExpressionLiteral loc text flags) k
+  link_expr m chain (TemplateLiteral loc spelled parts) k = made (TemplateLiteral loc spelled) (link_template_parts m parts k)
+  link_expr m chain (Parenthesized loc e) k = made (Parenthesized loc) (operand m chain (link_expr m chain e k))
+  link_expr m chain (NamedMember loc e text) k = made (λ e'. NamedMember loc e' text) (link_expr (at_expr m e) Alone e k)
+  link_expr m chain (ComputedMember loc e f) k = two (ComputedMember loc) (link_expr (at_expr m e) Alone e k) (link_expr (at_expr m f) Alone f)
+  link_expr m chain (New loc e es) k = two (New loc) (link_expr (at_expr m e) Alone e k) (link_exprs m es)
+  link_expr m chain (Call loc e es) k = two (Call loc) (link_expr (at_expr m e) Alone e k) (link_exprs m es)
+  link_expr m chain (PostfixUpdate loc operator e) k = made (PostfixUpdate loc operator) (link_expr (at_expr m e) Alone e k)
+  link_expr m chain (PrefixUpdate loc operator e) k = made (PrefixUpdate loc operator) (link_expr (at_expr m e) Alone e k)
+  link_expr m chain (Unary loc operator e) k = made (Unary loc operator) (link_expr (at_expr m e) Alone e k)
+  link_expr m chain (Binary loc operator e f) k = two (Binary loc operator) (link_expr (at_expr m e) Alone e k) (link_expr (at_expr m f) Alone f)
+  link_expr m (Operand b path) (Logical loc operator e f) k = two (Logical loc operator)
+      (operand (at_expr m e) (Operand b path) (link_expr (at_expr m e) (Operand b path) e k))
+      (λ k. operand (at_expr m f) (Operand b (past_leaves (at_expr m e) e path)) (link_expr (at_expr m f) (Operand b (past_leaves (at_expr m e) e path)) f k))
+  link_expr m Alone (Logical loc operator e f) k = branched m loc (λ b k. two (Logical loc operator)
+      (operand (at_expr m e) (Operand b 0) (link_expr (at_expr m e) (Operand b 0) e k))
+      (λ k. operand (at_expr m f) (Operand b (past_leaves (at_expr m e) e 0)) (link_expr (at_expr m f) (Operand b (past_leaves (at_expr m e) e 0)) f k))) k
+  link_expr m chain (Conditional loc e f g) k = branched m loc
+      (λ b k. three (λ e' f' g'. Conditional loc e' (enter_expr (by_path (at_expr m f) b) 0 f') (enter_expr (by_path (at_expr m g) b) (past_path (at_expr m f) 0) g'))
+      (link_expr (at_expr m e) Alone e k) (link_expr (at_expr m f) Alone f) (link_expr (at_expr m g) Alone g)) k
+  link_expr m chain (Assignment loc operator e f) k = two (Assignment loc operator) (link_expr (at_expr m e) Alone e k) (link_expr (at_expr m f) Alone f)
+  link_expr m chain (Comma loc e f) k = two (Comma loc) (link_expr (at_expr m e) Alone e k) (link_expr (at_expr m f) Alone f)
+  link_expr m chain (Entered mark e) k = link_expr m chain e k
 
   pub link_stmt : Marking → Stmt → Numbers → Linked Stmt
   link_stmt m (Directive loc spelled) k = kept (Directive loc spelled) k
   link_stmt m (Block loc xs) k = made (Block loc) (link_stmts m xs k)
   link_stmt m (VariableDeclaration loc kind declarators) k = made (VariableDeclaration loc kind) (link_declarators m declarators k)
   link_stmt m (Empty loc) k = kept (Empty loc) k
-  link_stmt m (Expression loc e) k = counted_stmt m loc (λ k. made (Expression loc) (link_expr m false e k)) k
-  link_stmt m (If loc e x y) k = counted_stmt m loc (λ k. branched m loc
-      (λ b k. three (λ e' x' y'. If loc e' (enter_stmt b 0 x') (enter_arm b 1 y'))
-      (link_expr m false e k) (link_stmt m x) (link_stmt_if m y)) k) k
-  link_stmt m (DoWhile loc x e) k = counted_stmt m loc (λ k. two (DoWhile loc) (link_stmt m x k) (link_expr m false e)) k
-  link_stmt m (While loc e x) k = counted_stmt m loc (λ k. two (While loc) (link_expr m false e k) (link_stmt m x)) k
-  link_stmt m (For loc init e f x) k = counted_stmt m loc (λ k. four (For loc) (link_for_init m init k) (link_expr_if m e) (link_expr_if m f) (link_stmt m x)) k
-  link_stmt m (ForIn loc target e x) k = counted_stmt m loc (λ k. three (ForIn loc) (link_for_target m target k) (link_expr m false e) (link_stmt m x)) k
-  link_stmt m (ForOf loc target e x) k = counted_stmt m loc (λ k. three (ForOf loc) (link_for_target m target k) (link_expr m false e) (link_stmt m x)) k
+  link_stmt m (Expression loc e) k = counted_stmt m loc (λ k. made (Expression loc) (link_expr (at_expr m e) Alone e k)) k
+  link_stmt m (If loc e x y) k = counted_stmt m loc (λ k. branched m loc (λ b k.
+      let holds = at_stmt (at_arm hint.If m loc) x in
+      let fails = at_stmt_if (at_arm hint.Else m loc) y in
+      three (λ e' x' y'. If loc e' (enter_stmt (by_path holds b) 0 x') (enter_arm (by_path fails b) (past_path holds 0) y'))
+      (link_expr (at_expr m e) Alone e k) (link_stmt holds x) (link_stmt_if fails y)) k) k
+  link_stmt m (DoWhile loc x e) k = counted_stmt m loc (λ k. two (DoWhile loc) (link_stmt (at_stmt m x) x k) (link_expr (at_expr m e) Alone e)) k
+  link_stmt m (While loc e x) k = counted_stmt m loc (λ k. two (While loc) (link_expr (at_expr m e) Alone e k) (link_stmt (at_stmt m x) x)) k
+  link_stmt m (For loc init e f x) k = counted_stmt m loc (λ k. four (For loc) (link_for_init m init k) (link_expr_if m e) (link_expr_if m f) (link_stmt (at_stmt m x) x)) k
+  link_stmt m (ForIn loc target e x) k = counted_stmt m loc (λ k. three (ForIn loc) (link_for_target m target k) (link_expr (at_expr m e) Alone e) (link_stmt (at_stmt m x) x)) k
+  link_stmt m (ForOf loc target e x) k = counted_stmt m loc (λ k. three (ForOf loc) (link_for_target m target k) (link_expr (at_expr m e) Alone e) (link_stmt (at_stmt m x) x)) k
   link_stmt m (Continue loc name) k = counted_stmt m loc (λ k. kept (Continue loc name) k) k
   link_stmt m (Break loc name) k = counted_stmt m loc (λ k. kept (Break loc name) k) k
   link_stmt m (Return loc e) k = counted_stmt m loc (λ k. made (Return loc) (link_expr_if m e k)) k
   link_stmt m (Switch loc e cases) k = counted_stmt m loc (λ k. branched m loc
-      (λ b k. two (Switch loc) (link_expr m false e k) (link_cases m b 0 cases)) k) k
-  link_stmt m (Labelled loc name x) k = counted_stmt m loc (λ k. made (labelled loc name) (link_stmt m x k)) k
-  link_stmt m (Throw loc e) k = counted_stmt m loc (λ k. made (Throw loc) (link_expr m false e k)) k
+      (λ b k. two (Switch loc) (link_expr (at_expr m e) Alone e k) (link_cases m b 0 cases)) k) k
+  link_stmt m (Labelled loc name x) k = counted_stmt m loc (λ k. made (labelled loc name) (link_stmt (at_stmt m x) x k)) k
+  link_stmt m (Throw loc e) k = counted_stmt m loc (λ k. made (Throw loc) (link_expr (at_expr m e) Alone e k)) k
   link_stmt m (TryCatch loc xs catch) k = counted_stmt m loc (λ k. two (TryCatch loc) (link_stmts m xs k) (link_catch m catch)) k
   link_stmt m (TryFinally loc xs ys) k = counted_stmt m loc (λ k. two (TryFinally loc) (link_stmts m xs k) (link_stmts m ys)) k
   link_stmt m (TryCatchFinally loc xs catch ys) k = counted_stmt m loc (λ k. three (TryCatchFinally loc) (link_stmts m xs k) (link_catch m catch) (link_stmts m ys)) k
@@ -250,7 +329,7 @@ abbrev mutual
 
   pub link_property : Marking → Property → Numbers → Linked Property
   link_property m (Shorthand loc text) k = kept (Shorthand loc text) k
-  link_property m (KeyValue loc key e) k = two (KeyValue loc) (link_property_key m key k) (link_expr m false e)
+  link_property m (KeyValue loc key e) k = two (KeyValue loc) (link_property_key m key k) (link_expr (at_expr m e) Alone e)
   link_property m (Method loc key (MakeFunction number params body)) k = counting m construct_kind.Function (function_place loc None (braced_place body))
       (λ c k. three (λ key' ps b. Method loc key' (MakeFunction k.code ps (enter_body c b)))
       (link_property_key m key (after_code k)) (link_params m params) (link_function_body m body)) k
@@ -259,23 +338,23 @@ abbrev mutual
   link_property_key m (NameKey text) k = kept (NameKey text) k
   link_property_key m (StringKey spelled) k = kept (StringKey spelled) k
   link_property_key m (NumberKey text) k = kept (NumberKey text) k
-  link_property_key m (ComputedKey e) k = made ComputedKey (link_expr m false e k)
+  link_property_key m (ComputedKey e) k = made ComputedKey (link_expr (at_expr m e) Alone e k)
 
   pub link_concise_body : Marking → ConciseBody → Numbers → Linked ConciseBody
-  link_concise_body m (ExpressionBody e) k = made ExpressionBody (counted_expr m (bare_place e) (link_expr m false e) k)
+  link_concise_body m (ExpressionBody e) k = made ExpressionBody (counted_expr (at_expr m e) (bare_place e) (link_expr (at_expr m e) Alone e) k)
   link_concise_body m (BlockBody body) k = made BlockBody (link_function_body m body k)
 
   pub link_for_init : Marking → ForInit → Numbers → Linked ForInit
   link_for_init m NoInit k = kept NoInit k
   link_for_init m (InitDeclaration kind declarators) k = made (InitDeclaration kind) (link_declarators m declarators k)
-  link_for_init m (InitExpression e) k = made InitExpression (link_expr m false e k)
+  link_for_init m (InitExpression e) k = made InitExpression (link_expr (at_expr m e) Alone e k)
 
   pub link_for_target : Marking → ForTarget → Numbers → Linked ForTarget
   link_for_target m (TargetDeclaration kind pattern) k = kept (TargetDeclaration kind pattern) k
-  link_for_target m (TargetExpression e) k = made TargetExpression (link_expr m false e k)
+  link_for_target m (TargetExpression e) k = made TargetExpression (link_expr (at_expr m e) Alone e k)
 
   pub link_template_part : Marking → TemplatePart → Numbers → Linked TemplatePart
-  link_template_part m (MakeTemplatePart e spelled) k = made (λ e'. MakeTemplatePart e' spelled) (link_expr m false e k)
+  link_template_part m (MakeTemplatePart e spelled) k = made (λ e'. MakeTemplatePart e' spelled) (link_expr (at_expr m e) Alone e k)
 
   pub link_function : Marking → Option Loc → Option Identifier → Function → Numbers → Linked Function
   link_function m loc name (MakeFunction number params body) k =
@@ -289,12 +368,12 @@ abbrev mutual
   pub link_param : Marking → Param → Numbers → Linked Param
   link_param m (MakeParam loc pattern none_expr) k = kept (MakeParam loc pattern none_expr) k
   link_param m (MakeParam loc pattern (some_expr e)) k = branched m loc
-      (λ b k. made (λ e'. MakeParam loc pattern (some_expr (enter_expr b 0 e'))) (link_expr m false e k)) k
+      (λ b k. made (λ e'. MakeParam loc pattern (some_expr (enter_expr (by_path (at_expr m e) b) 0 e'))) (link_expr (at_expr m e) Alone e k)) k
 
   pub link_declarator : Marking → Declarator → Numbers → Linked Declarator
   link_declarator m (MakeDeclarator loc pattern none_expr) k = kept (MakeDeclarator loc pattern none_expr) k
   link_declarator m (MakeDeclarator loc pattern (some_expr e)) k =
-      made (λ e'. MakeDeclarator loc pattern (some_expr e')) (counted_expr m (bare_place e) (link_expr m false e) k)
+      made (λ e'. MakeDeclarator loc pattern (some_expr e')) (counted_expr (at_expr m e) (bare_place e) (link_expr (at_expr m e) Alone e) k)
 
   pub link_case : Marking → Case → Numbers → Linked Case
   link_case m (MakeCase loc e xs) k = two (MakeCase loc) (link_expr_if m e k) (link_stmts m xs)
@@ -305,7 +384,7 @@ abbrev mutual
 
   pub link_expr_if : Marking → MaybeExpr → Numbers → Linked MaybeExpr
   link_expr_if m none_expr k = kept none_expr k
-  link_expr_if m (some_expr e) k = made some_expr (link_expr m false e k)
+  link_expr_if m (some_expr e) k = made some_expr (link_expr (at_expr m e) Alone e k)
 
   pub link_stmt_if : Marking → MaybeStmt → Numbers → Linked MaybeStmt
   link_stmt_if m none_stmt k = kept none_stmt k
@@ -314,7 +393,7 @@ abbrev mutual
 
   pub link_exprs : Marking → Exprs → Numbers → Linked Exprs
   link_exprs m no_expr k = kept no_expr k
-  link_exprs m (more_expr x xs) k = two more_expr (link_expr m false x k) (link_exprs m xs)
+  link_exprs m (more_expr x xs) k = two more_expr (link_expr (at_expr m x) Alone x k) (link_exprs m xs)
 
   pub link_template_parts : Marking → TemplateParts → Numbers → Linked TemplateParts
   link_template_parts m no_template_part k = kept no_template_part k
@@ -322,23 +401,24 @@ abbrev mutual
 
   pub link_properties : Marking → Properties → Numbers → Linked Properties
   link_properties m no_property k = kept no_property k
-  link_properties m (more_property x xs) k = two more_property (link_property m x k) (link_properties m xs)
+  link_properties m (more_property x xs) k = two more_property (link_property (at_property m x) x k) (link_properties m xs)
 
   pub link_params : Marking → Params → Numbers → Linked Params
   link_params m no_param k = kept no_param k
-  link_params m (more_param x xs) k = two more_param (link_param m x k) (link_params m xs)
+  link_params m (more_param x xs) k = two more_param (link_param (at_param m x) x k) (link_params m xs)
 
   pub link_stmts : Marking → Stmts → Numbers → Linked Stmts
   link_stmts m no_stmt k = kept no_stmt k
-  link_stmts m (more_stmt x xs) k = two more_stmt (link_stmt m x k) (link_stmts m xs)
+  link_stmts m (more_stmt x xs) k = two more_stmt (link_stmt (at_stmt m x) x k) (link_stmts m xs)
 
   pub link_declarators : Marking → Declarators → Numbers → Linked Declarators
   link_declarators m no_declarator k = kept no_declarator k
-  link_declarators m (more_declarator x xs) k = two more_declarator (link_declarator m x k) (link_declarators m xs)
+  link_declarators m (more_declarator x xs) k = two more_declarator (link_declarator (at_declarator m x) x k) (link_declarators m xs)
 
   pub link_cases : Marking → Marks → ℕ → Cases → Numbers → Linked Cases
   link_cases m b path no_case k = kept no_case k
-  link_cases m b path (more_case x xs) k = two (λ x' xs'. more_case (enter_case b path x') xs') (link_case m x k) (link_cases m b (suc path) xs)
+  link_cases m b path (more_case x xs) k = two (λ x' xs'. more_case (enter_case (by_path (at_case m x) b) path x') xs')
+      (link_case (at_case m x) x k) (link_cases m b (past_path (at_case m x) path) xs)
 
 abbrev pub link_file : Marking → File → Numbers → Linked File
-link_file m (MakeFile body comments) k = made (λ body'. MakeFile body' comments) (link_stmts m body k)
+link_file m (MakeFile body comments) k = made (λ body'. MakeFile body' comments) (link_stmts (with_comments m comments) body k)

@@ -1,10 +1,11 @@
 -- Where the parts of a tree stand in the text: nowhere, where they were inserted.
-use Rattle.std.specs.Prelude.{List, [], ◌∷◌, ◌++◌, Option, None}
+use Rattle.std.specs.Prelude.{Option, None}
 use Rattle.js_tree.specs.declared.place.Loc.{Loc}
 use Rattle.js_tree.specs.Plain.{Expr, IdentifierReference, This, NullLiteral, BooleanLiteral, NumericLiteral, StringLiteral, ArrayLiteral, ObjectLiteral, FunctionExpression, ArrowFunction, RegularExpressionLiteral, TemplateLiteral, Parenthesized, NamedMember, ComputedMember, New, Call, PostfixUpdate, PrefixUpdate, Unary, Binary, Logical, Conditional, Assignment, Comma, Entered}
 use Rattle.js_tree.specs.Plain.{Stmt, Directive, Block, VariableDeclaration, Empty, Expression, If, DoWhile, While, For, ForIn, ForOf, Continue, Break, Return, Switch, Labelled, Throw, TryCatch, TryFinally, TryCatchFinally, Debugger, FunctionDeclaration, EnteredStmt}
 use Rattle.js_tree.specs.Plain.{Function, MakeFunction, FunctionBody, MakeFunctionBody, EnteredBody, ConciseBody, ExpressionBody, BlockBody}
-use Rattle.js_tree.specs.Plain.{Cases, no_case, more_case, Case, MakeCase, EnteredCase, MaybeStmt, none_stmt, some_stmt, entered_none}
+use Rattle.js_tree.specs.Plain.{Property, Shorthand, KeyValue, Method, Param, MakeParam, Declarator, MakeDeclarator}
+use Rattle.js_tree.specs.Plain.{Case, MakeCase, EnteredCase, MaybeStmt, none_stmt, some_stmt, entered_none}
 
 -- an expression, without parentheses round it
 abbrev pub bare_place : Expr → Option Loc
@@ -34,6 +35,12 @@ bare_place (Conditional loc _ _ _) = loc
 bare_place (Assignment loc _ _ _) = loc
 bare_place (Comma loc _ _) = loc
 bare_place (Entered _ inner) = bare_place inner
+
+-- an expression, with the parentheses round it
+abbrev pub expr_place : Expr → Option Loc
+expr_place (Parenthesized loc _) = loc
+expr_place (Entered _ e) = expr_place e
+expr_place e = bare_place e
 
 -- a statement
 abbrev pub stmt_place : Stmt → Option Loc
@@ -67,20 +74,24 @@ stmt_if_place none_stmt = None
 stmt_if_place (some_stmt s) = stmt_place s
 stmt_if_place (entered_none _) = None
 
--- the cases of a `switch`
+-- a property
+abbrev pub property_place : Property → Option Loc
+property_place (Shorthand loc _) = loc
+property_place (KeyValue loc _ _) = loc
+property_place (Method loc _ _) = loc
+
+-- a parameter
+abbrev pub param_place : Param → Option Loc
+param_place (MakeParam loc _ _) = loc
+
+-- a declarator
+abbrev pub declarator_place : Declarator → Option Loc
+declarator_place (MakeDeclarator loc _ _) = loc
+
+-- a case of a `switch`
 abbrev pub case_place : Case → Option Loc
 case_place (MakeCase loc _ _) = loc
 case_place (EnteredCase _ case) = case_place case
-
-abbrev pub case_places : Cases → List (Option Loc)
-case_places no_case = []
-case_places (more_case x cases) = case_place x ∷ case_places cases
-
--- the leaves of a chain of logical operators, parentheses notwithstanding
-abbrev pub leaf_places : Expr → List (Option Loc)
-leaf_places (Logical _ _ left right) = leaf_places left ++ leaf_places right
-leaf_places (Parenthesized _ inner) = leaf_places inner
-leaf_places leaf = bare_place leaf ∷ []
 
 -- the body of a function
 abbrev pub braced_place : FunctionBody → Option Loc

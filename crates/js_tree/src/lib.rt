@@ -2,12 +2,14 @@
 #![tactic(auto)]
 
 mod construct;
+mod hint;
 mod operators;
 mod place;
 mod tree;
 mod words;
 
 pub use construct::{BranchKind, Construct, ConstructKind};
+pub use hint::Hint;
 pub use operators::{
     AssignmentOperator, BinaryOperator, LogicalOperator, UnaryOperator, UpdateOperator,
     VariableKind,

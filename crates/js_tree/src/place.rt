@@ -1,5 +1,5 @@
 /// A place in a source text.
-#[derive(Clone, Copy, Debug, PartialEq, Eq)]
+#[derive(Clone, Copy, Debug, PartialEq, Eq, PartialOrd, Ord)]
 pub struct Pos {
     /// The line, from 1. A greater number than fits stands as 2^32 - 1.
     pub line: u32,
