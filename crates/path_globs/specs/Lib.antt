@@ -1,4 +1,6 @@
 pub mod NormalForm
 pub mod Specifier
 pub mod Beside
+pub mod Wildcards
 pub mod Rows
+pub mod private

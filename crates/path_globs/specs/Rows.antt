@@ -1,8 +1,9 @@
 -- Paths and specifiers, and what they come to.
-use Rattle.std.specs.Prelude.{◌≡◌, ℕ, List, [], ◌∷◌, map, Option, Some, None, codes}
+use Rattle.std.specs.Prelude.{◌≡◌, ℕ, Bool, true, false, List, [], ◌∷◌, map, Option, Some, None, codes}
 use Rattle.path_globs.specs.NormalForm.{normal}
 use Rattle.path_globs.specs.Specifier.{resolve}
 use Rattle.path_globs.specs.Beside.{beside}
+use Rattle.path_globs.specs.Wildcards.{matches}
 
 -- a function takes what stands left in each row to what stands right
 abbrev pub Agrees : {A B : Type 0} → (A → B) → List (A × B) → Type 0
@@ -64,3 +65,31 @@ beside_rows =
 
 abbrev pub Beside : Type 0
 Beside = Agrees (λ row. beside row.0 row.1) beside_rows
+
+-- a pattern and a path
+abbrev match_rows : List ((List ℕ × List ℕ) × Bool)
+match_rows =
+    ((codes "lib/**/*.js", codes "lib/a.js"), true) ∷
+    ((codes "lib/**/*.js", codes "lib/x/y/a.js"), true) ∷
+    ((codes "lib/**/*.js", codes "src/a.js"), false) ∷
+    ((codes "*.js", codes "lib/a.js"), false) ∷
+    ((codes "*.js", codes "a.js"), true) ∷
+    ((codes "**", codes "a/b.js"), true) ∷
+    ((codes "**/b.js", codes "b.js"), true) ∷
+    ((codes "a/**", codes "a"), true) ∷
+    ((codes "a/**/b/**/c.js", codes "a/b/x/b/y/c.js"), true) ∷
+    ((codes "a/**/b/**/c.js", codes "a/x/c.js"), false) ∷
+    ((codes "a?c.js", codes "abc.js"), true) ∷
+    ((codes "a?c.js", codes "a/c.js"), false) ∷
+    ((codes "a?c.js", codes "ac.js"), false) ∷
+    ((codes "?.js", 195 ∷ 164 ∷ codes ".js"), true) ∷
+    ((codes "a*b*c", codes "axxbxbyc"), true) ∷
+    ((codes "a*b*c", codes "axxcxbyd"), false) ∷
+    ((codes "a**.js", codes "a/b.js"), false) ∷
+    ((codes "a**.js", codes "ab.js"), true) ∷
+    ((codes "a.js", codes "axjs"), false) ∷
+    ((codes "[ab].js", codes "a.js"), false) ∷
+    []
+
+abbrev pub Matches : Type 0
+Matches = Agrees (λ row. matches row.0 row.1) match_rows
