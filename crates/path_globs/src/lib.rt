@@ -1,4 +1,4 @@
-//! Paths: their normal form, what a file asks for, and what stands beside it.
+//! Paths: their normal form, what a file asks for, what stands beside it, and patterns of them.
 #![tactic(auto)]
 
 mod beside;
