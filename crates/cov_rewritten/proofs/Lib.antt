@@ -1,0 +1,15 @@
+pub mod Again
+pub mod Declared
+pub mod Laws
+pub mod Low
+pub mod Numerals
+pub mod Order
+pub mod PreamblePrints
+pub mod Prints
+pub mod Quiet
+pub mod Quoted
+pub mod Rows
+pub mod Rules
+pub mod SameRules
+pub mod This
+pub mod Words
