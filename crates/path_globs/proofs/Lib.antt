@@ -1,3 +1,4 @@
 mod NormalFormLemmas
 mod SpecifierLemmas
 mod BesideLemmas
+mod SourceLemmas
