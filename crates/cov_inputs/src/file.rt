@@ -29,7 +29,7 @@ pub(crate) fn no_file(alloc: Global, path: &str) -> InputFault
 }
 
 /// That the file at a path is too long.
-fn too_long(alloc: Global, path: &str) -> InputFault
+pub(crate) fn too_long(alloc: Global, path: &str) -> InputFault
     ensures { IsRefusal result (why.TooLong path.now) }
 {
     match Text::from_str(alloc, path) {
@@ -39,7 +39,7 @@ fn too_long(alloc: Global, path: &str) -> InputFault
 }
 
 /// That the file at a path is no coverage file, by what is wrong with it.
-fn bad_input(alloc: Global, path: &str, what: What) -> InputFault
+pub(crate) fn bad_input(alloc: Global, path: &str, what: What) -> InputFault
     ensures { IsRefusal result (why.BadInput path.now what) }
 {
     match Text::from_str(alloc, path) {
@@ -116,7 +116,7 @@ fn or_too_large(sums: Result<CoverageMap, MergeFault>) -> Result<CoverageMap, In
 }
 
 /// Sums, and a map more: only the paths of the map are touched.
-fn merged_onto(
+pub(crate) fn merged_onto(
     alloc: Global,
     sums: CoverageMap,
     map: &CoverageMap,

@@ -13,7 +13,7 @@ use items::Text;
 use std::alloc::Global;
 
 /// That the read of the file at a path failed.
-fn read_failed(alloc: Global, path: &str) -> InputFault
+pub(crate) fn read_failed(alloc: Global, path: &str) -> InputFault
     ensures { IsReadFailure result path.now }
 {
     match Text::from_str(alloc, path) {

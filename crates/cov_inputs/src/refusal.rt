@@ -18,8 +18,10 @@ pub enum What {
 pub enum Refusal {
     /// There is no file at this path.
     NoFile { path: Text },
-    /// The file at this path is longer than 16 MiB.
+    /// The coverage file at this path is longer than 16 MiB, or the source than 1,048,576 bytes.
     TooLong { path: Text },
+    /// The source at this path isn't UTF-8 from this byte on: only V8's coverage names sources.
+    NotUtf8 { path: Text, at: u64 },
     /// The file at this path is no coverage file, or a source map in it is none.
     BadInput { path: Text, what: What },
     /// The counts of a key come to 2^53 or more: this is the running sum where it first does.

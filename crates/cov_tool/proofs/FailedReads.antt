@@ -44,6 +44,7 @@ source_read path why message result says ends is =
 of_refusal : (why : Refusal) → status_of (message_of_refusal why) ≡ status.ReadFault → ⊥
 of_refusal (refusal.NoFile path) is = cc
 of_refusal (refusal.TooLong path) is = cc
+of_refusal (refusal.NotUtf8 path at) is = cc
 of_refusal (refusal.BadInput path what) is = cc
 of_refusal (refusal.CountTooLarge sum) is = cc
 

@@ -26,6 +26,7 @@ use Rattle.cov_tool.proofs.Stands.{Stands, IsSaid, after_nothing, gives_way, mem
 refusal_status : (why : Refusal) → status_of (message_of_refusal why) ≡ status_of_refusal why
 refusal_status (refusal.NoFile path) = refl
 refusal_status (refusal.TooLong path) = refl
+refusal_status (refusal.NotUtf8 path at) = refl
 refusal_status (refusal.BadInput path what) = refl
 refusal_status (refusal.CountTooLarge sum) = refl
 
@@ -71,6 +72,7 @@ module _ (task : CoverageTask) (files : List (List ℕ)) (told : Option Held) wh
         by_why : (other : Refusal) → (verdict task are.inputs).status ≡ status_of_refusal other → IsDue (status_of_refusal other) task files told
         by_why (refusal.NoFile path) e = record { inputs = are.inputs; read = are.read; comes = e }
         by_why (refusal.TooLong path) e = record { inputs = are.inputs; read = are.read; comes = e }
+        by_why (refusal.NotUtf8 path at) e = record { inputs = are.inputs; read = are.read; comes = e }
         by_why (refusal.BadInput path what) e = record { inputs = are.inputs; read = are.read; comes = e }
         by_why (refusal.CountTooLarge sum) e = record { inputs = are.inputs; read = are.read; comes = e }
 
@@ -81,6 +83,7 @@ module _ (task : CoverageTask) (files : List (List ℕ)) (told : Option Held) wh
             P.AreLines (Some (OnCoverage task files)) (status_of_refusal other) told (said.line (message_of_refusal other))
         by_why (refusal.NoFile path) e f = (said.NoFile path, record { inputs = are.inputs; read = are.read; comes = e; said = f }, refl)
         by_why (refusal.TooLong path) e f = (said.TooLong path, record { inputs = are.inputs; read = are.read; comes = e; said = f }, refl)
+        by_why (refusal.NotUtf8 path at) e f = (said.NotUtf8 path at, record { inputs = are.inputs; read = are.read; comes = e; said = f }, refl)
         by_why (refusal.BadInput path what) e f = (said.BadInput path what, record { inputs = are.inputs; read = are.read; comes = e; said = f }, refl)
         by_why (refusal.CountTooLarge sum) e f = (said.CountTooLarge sum, record { inputs = are.inputs; read = are.read; comes = e; said = f }, refl)
 

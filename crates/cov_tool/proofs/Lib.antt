@@ -9,3 +9,4 @@ pub mod LineLemmas
 pub mod Placed
 pub mod Reached
 pub mod Stands
+pub mod V8Judged

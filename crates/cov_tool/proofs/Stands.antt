@@ -6,7 +6,7 @@ use Rattle.cov_inputs.specs.Inputs.{Input, AreRead}
 use Rattle.cov_words.specs.declared.command.CoverageTask.TheVariants.{Merge, Report, Check}
 use Rattle.cov_tool.specs.Source as source
 use Rattle.cov_words.specs.declared.command.Command.{Command}
-use Rattle.cov_words.specs.declared.command.Command.TheVariants.{Help, OnSource, OnCoverage}
+use Rattle.cov_words.specs.declared.command.Command.TheVariants.{Help, OnSource, OnCoverage, OnV8}
 use Rattle.cov_tool.specs.Line as said
 use Rattle.cov_tool.specs.Program.{IsDue, Comes, GivesWay, AreLines, PrintsPrefix, Stores, CountsPuts, Says, SaysLines, SaysAtMost}
 use Rattle.cov_tool.specs.private.Cause.{status_of}
@@ -37,6 +37,10 @@ memory_is_said (Some (OnSource task file)) told = record {
 }
 memory_is_said (Some (OnCoverage task files)) told = record {
   stands = gives_way (Some (OnCoverage task files)) told (inr (inr refl)) tt;
+  are = (said.OutOfMemory, refl, refl);
+}
+memory_is_said (Some (OnV8 out files)) told = record {
+  stands = gives_way (Some (OnV8 out files)) told (inr (inr refl)) tt;
   are = (said.OutOfMemory, refl, refl);
 }
 
@@ -77,8 +81,9 @@ prints_nothing (Some (OnSource task file)) told before after same = source.nothi
 prints_nothing (Some (OnCoverage task files)) told before after same =
     let some = some_inputs files told in
     record { inputs = some.0; read = some.1; taken = (0, omega arith, same ∙ after_nothing before) }
+prints_nothing (Some (OnV8 out files)) told before after same = same
 
-others_stay : (held : Option Held) (path : List ℕ) → BothTell held held (KeepsOthers path)
+pub others_stay : (held : Option Held) (path : List ℕ) → BothTell held held (KeepsOthers path)
 others_stay None path = tt
 others_stay (Some at) path = λ other differs. refl
 
@@ -97,6 +102,11 @@ stores_nothing (Some (OnCoverage (Merge out) files)) told is = record {
 }
 stores_nothing (Some (OnCoverage (Report which) files)) told is = refl
 stores_nothing (Some (OnCoverage (Check thresholds) files)) told is = refl
+stores_nothing (Some (OnV8 out files)) told is = record {
+  others = others_stay told out;
+  sums = λ ok. absurd (not_done is ok);
+  untried = λ before. refl;
+}
 
 pub counts_no_puts : (asked : Option Command) (count : ℕ) → CountsPuts asked count count
 counts_no_puts None count = refl
@@ -105,6 +115,7 @@ counts_no_puts (Some (OnSource task file)) count = refl
 counts_no_puts (Some (OnCoverage (Merge out) files)) count = omega arith
 counts_no_puts (Some (OnCoverage (Report which) files)) count = refl
 counts_no_puts (Some (OnCoverage (Check thresholds) files)) count = refl
+counts_no_puts (Some (OnV8 out files)) count = omega arith
 
 module _ (asked : Option Command) (told : Option Held) where
   -- the status with which a complaint ends stands too

@@ -55,12 +55,14 @@ verdict_on (Check thresholds) sums = check_verdict (shortfalls_of (summary_of su
 abbrev pub message_of_refusal : Refusal → said.Message
 message_of_refusal (refusal.NoFile path) = said.NoFile path
 message_of_refusal (refusal.TooLong path) = said.TooLong path
+message_of_refusal (refusal.NotUtf8 path at) = said.NotUtf8 path at
 message_of_refusal (refusal.BadInput path what) = said.BadInput path what
 message_of_refusal (refusal.CountTooLarge sum) = said.CountTooLarge sum
 
 abbrev pub status_of_refusal : Refusal → Status
 status_of_refusal (refusal.NoFile path) = status.NoFile
 status_of_refusal (refusal.TooLong path) = status.Limit
+status_of_refusal (refusal.NotUtf8 path at) = status.Refused
 status_of_refusal (refusal.BadInput path what) = status.BadInput
 status_of_refusal (refusal.CountTooLarge sum) = status.Limit
 

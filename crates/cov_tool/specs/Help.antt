@@ -7,7 +7,7 @@ use Rattle.cov_tool.specs.declared.status.Status.TheVariants as status
 
 -- a form a line, also of the commands that are still to come
 abbrev pub help_text : List ℕ
-help_text = codes "cov maps FILE\ncov exec [--turns N] FILE\ncov instrument --out DIR FILE..\ncov run [--turns N] [--out P] [--exclude GLOBS] ENTRY\ncov merge --out P FILE..\ncov report [--reporter R] FILE..\ncov check [--lines N] [--statements N] [--branches N] [--functions N] FILE..\ncov demo SEED COUNT\n"
+help_text = codes "cov maps FILE\ncov exec [--turns N] FILE\ncov instrument --out DIR FILE..\ncov run [--turns N] [--out P] [--exclude GLOBS] ENTRY\ncov merge --out P FILE..\ncov report [--reporter R] FILE..\ncov check [--lines N] [--statements N] [--branches N] [--functions N] FILE..\ncov demo SEED COUNT\ncov v8 --out P FILE..\n"
 
 -- only a fault of standard output and want of memory keep it from being done
 abbrev pub IsDue : Status → Type 0

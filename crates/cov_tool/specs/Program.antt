@@ -5,11 +5,12 @@ use Rattle.cov_base.specs.Store.{Held}
 use Rattle.cov_base.specs.Sink.{after_more, TakesPrefix}
 use Rattle.cov_base.specs.Causes.{Rose}
 use Rattle.cov_words.specs.declared.command.Command.{Command}
-use Rattle.cov_words.specs.declared.command.Command.TheVariants.{Help, OnSource, OnCoverage}
+use Rattle.cov_words.specs.declared.command.Command.TheVariants.{Help, OnSource, OnCoverage, OnV8}
 use Rattle.cov_words.specs.declared.command.CoverageTask.TheVariants.{Merge}
 use Rattle.cov_tool.specs.Help as help
 use Rattle.cov_tool.specs.Source as source
 use Rattle.cov_tool.specs.Coverage as coverage
+use Rattle.cov_tool.specs.V8 as v8
 use Rattle.cov_tool.specs.Line as said
 use Rattle.cov_tool.specs.declared.status.Status.{Status}
 use Rattle.cov_tool.specs.declared.status.Status.TheVariants as status
@@ -22,6 +23,7 @@ IsDue None wanted told = (wanted ≡ status.Usage) ⊎ (wanted ≡ status.Memory
 IsDue (Some Help) wanted told = help.IsDue wanted
 IsDue (Some (OnSource task file)) wanted told = source.IsDue wanted task file told
 IsDue (Some (OnCoverage task files)) wanted told = coverage.IsDue wanted task files told
+IsDue (Some (OnV8 out files)) wanted told = v8.IsDue wanted files told
 
 -- a fault or want of memory came first
 abbrev pub GivesWay : Status → Type 0
@@ -43,6 +45,7 @@ IsOutput None told output = output ≡ []
 IsOutput (Some Help) told output = output ≡ help.help_text
 IsOutput (Some (OnSource task file)) told output = source.IsOutput task file told output
 IsOutput (Some (OnCoverage task files)) told output = coverage.IsOutput task files told output
+IsOutput (Some (OnV8 out files)) told output = output ≡ []
 
 -- nothing was printed, or a prefix of that of what the files hold; where the store doesn't tell, of what they could hold
 abbrev pub PrintsPrefix : Option Command → Option Held → Option (List ℕ) → Option (List ℕ) → Type 0
@@ -50,6 +53,7 @@ PrintsPrefix None told before after = after ≡ before
 PrintsPrefix (Some Help) told before after = help.PrintsPrefix before after
 PrintsPrefix (Some (OnSource task file)) told before after = source.PrintsPrefix task file told before after
 PrintsPrefix (Some (OnCoverage task files)) told before after = coverage.PrintsPrefix task files told before after
+PrintsPrefix (Some (OnV8 out files)) told before after = after ≡ before
 
 -- with these statuses all of it was printed
 abbrev pub PrintsAll : Status → Type 0
@@ -66,6 +70,7 @@ PrintsOutput None result told before after = ⊥
 PrintsOutput (Some Help) result told before after = help.PrintsOutput before after
 PrintsOutput (Some (OnSource task file)) result told before after = source.PrintsOutput result task file told before after
 PrintsOutput (Some (OnCoverage task files)) result told before after = coverage.PrintsOutput result task files told before after
+PrintsOutput (Some (OnV8 out files)) result told before after = after ≡ before
 
 -- and with these nothing was
 abbrev pub PrintsNothing : Status → Type 0
@@ -79,14 +84,16 @@ PrintsNothing other = ⊥
 
 -- ---- what the store holds
 
--- `merge` puts its JSON at its path; all else leaves the store as it was
+-- `merge` and `v8` put their JSON at their path; all else leaves the store as it was
 abbrev pub Stores : Option Command → Status → Option Held → Option Held → Type 0
 Stores (Some (OnCoverage (Merge out) files)) result before after = coverage.Puts result out files before after
+Stores (Some (OnV8 out files)) result before after = v8.Puts result out files before after
 Stores other result before after = after ≡ before
 
 -- and puts nothing, so that no put fails
 abbrev pub CountsPuts : Option Command → ℕ → ℕ → Type 0
 CountsPuts (Some (OnCoverage (Merge out) files)) before after = before ≤ after
+CountsPuts (Some (OnV8 out files)) before after = before ≤ after
 CountsPuts other before after = after ≡ before
 
 -- ---- the lines on standard error
@@ -99,6 +106,7 @@ AreLines None other told lines = ⊥
 AreLines (Some Help) result told lines = help.AreLines result lines
 AreLines (Some (OnSource task file)) result told lines = source.IsLine result task file told lines
 AreLines (Some (OnCoverage task files)) result told lines = coverage.AreLines result task files told lines
+AreLines (Some (OnV8 out files)) result told lines = v8.AreLines result files told lines
 
 -- a sink has taken the lines and no more, or a prefix of them where its count of faults rose
 pub record Says (lines : List ℕ) (before after : Option (List ℕ)) (faults_before faults_after : ℕ) : Type 0 where

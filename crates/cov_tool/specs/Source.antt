@@ -27,7 +27,7 @@ use Rattle.cov_maps.specs.Zero.{zero_file}
 use Rattle.cov_words.specs.declared.command.SourceTask.{SourceTask}
 use Rattle.cov_words.specs.declared.command.SourceTask.TheVariants.{Maps, Exec}
 use Rattle.cov_run.specs.Exec.{run_of}
-use Rattle.cov_tool.specs.Hash.{hash_text}
+use Rattle.cov_hash.specs.Hash.{hash_text}
 use Rattle.cov_tool.specs.Line as said
 use Rattle.cov_tool.specs.declared.answer.Answer.{Answer}
 use Rattle.cov_tool.specs.declared.status.Status.{Status}

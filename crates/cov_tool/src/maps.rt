@@ -7,7 +7,7 @@ ghost use Rattle.cov_words.specs.declared.command.SourceTask.TheVariants.{Maps};
 ghost use Rattle.cov_tool.specs.Source as spec;
 
 use crate::answer::Answer;
-use crate::hash::hash_of;
+use cov_hash::hash_of;
 use cov_hints::ignores_file;
 use cov_maps::{Construct, constructs, zero};
 use cov_object::{CoverageMap, write_json};

@@ -28,6 +28,10 @@ fn complaint_of_refusal(why: &Refusal) -> Complaint<'_>
         Refusal::TooLong { path } => Complaint::TooLong {
             path: path.as_str(),
         },
+        Refusal::NotUtf8 { path, at } => Complaint::NotUtf8 {
+            path: path.as_str(),
+            at: *at as usize,
+        },
         Refusal::BadInput { path, what } => Complaint::BadInput {
             path: path.as_str(),
             what,
@@ -37,7 +41,7 @@ fn complaint_of_refusal(why: &Refusal) -> Complaint<'_>
 }
 
 /// What is said of coverage files that were not read or have no sums.
-fn complaint_of(fault: &InputFault) -> Complaint<'_>
+pub(crate) fn complaint_of(fault: &InputFault) -> Complaint<'_>
     ensures { message_of result ≡ message_of_fault fault.now }
 {
     match fault {

@@ -63,7 +63,12 @@ fn below(alloc: Global, thresholds: Thresholds, map: &CoverageMap) -> Result<Vec
 }
 
 /// Puts the JSON of a map at a path.
-fn put<S: Store>(alloc: Global, store: &mut S, path: &str, map: &CoverageMap) -> Result<(), Failed>
+pub(crate) fn put<S: Store>(
+    alloc: Global,
+    store: &mut S,
+    path: &str,
+    map: &CoverageMap,
+) -> Result<(), Failed>
     ensures value { PutsAt path.now (spec.json_line map.now) (S.held store.old) (S.held store.new) result }
     ensures cause { HasCause (S.put_faults store.old) (S.put_faults store.new) result }
     ensures reads { S.read_faults store.new ≡ S.read_faults store.old }

@@ -9,6 +9,7 @@ use crate::line::Complaint;
 use crate::on_coverage::on_coverage;
 use crate::on_help::on_help;
 use crate::on_source::on_source;
+use crate::on_v8::on_v8;
 use crate::status::Status;
 use cov_base::{Sink, Store};
 use cov_words::{Command, command_of};
@@ -22,7 +23,8 @@ use std::alloc::Global;
 /// otherwise than done, that is said after it. Three are on coverage files, which are read and merged
 /// one after another: `merge --out P FILE..` puts their JSON and LF at P, `report [--reporter R]
 /// FILE..` prints a report, and `check [--lines N] [--statements N] [--branches N] [--functions N]
-/// FILE..` says which percentages are below their thresholds. `--help` alone prints these forms and
+/// FILE..` says which percentages are below their thresholds. `v8 --out P FILE..` is on V8's coverage
+/// files: it puts the JSON of what they tell of their sources and LF at P. `--help` alone prints these forms and
 /// those of the commands that are still to come.
 pub fn cov<S: Store, O: Sink, E: Sink>(
     alloc: Global,
@@ -71,6 +73,9 @@ pub fn cov<S: Store, O: Sink, E: Sink>(
         }
         Some(Command::OnCoverage { task, files }) => {
             on_coverage(alloc, task, files.as_slice(), store, out, err)
+        }
+        Some(Command::OnV8 { out: path, files }) => {
+            on_v8(alloc, path.as_str(), files.as_slice(), store, err)
         }
     }
 }

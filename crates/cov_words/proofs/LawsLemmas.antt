@@ -8,7 +8,7 @@ use Rattle.clap.specs.ValueTests.{is_unsigned_in}
 use Rattle.clap.specs.declared.builder.value_parser.ValueParser.TheVariants as parser
 use Rattle.clap.proofs.OnLiterals.{clap_on_literals}
 use Rattle.clap.proofs.ValueTestLemmas.{accepts-Accepts}
-use Rattle.cov_words.specs.Laws.{IsPlain, MapsFile, ExecFile, ExecTurns, NoTurns, OneFile, MergeFile, ReportFile, CheckFiles, OtherName}
+use Rattle.cov_words.specs.Laws.{IsPlain, MapsFile, ExecFile, ExecTurns, NoTurns, OneFile, MergeFile, ReportFile, CheckFiles, V8File, OtherName}
 use Rattle.cov_words.specs.Words.{command_of, is_help, max_turns}
 use Rattle.cov_words.proofs.WordsLemmas.{is_number}
 
@@ -90,7 +90,12 @@ unfolding clap_on_literals
 check_files first second plain other =
     rw (no_dashes first plain, no_dash first plain, no_dash first plain, no_dashes second other, no_dash second other, no_dash second other) refl
 
+pub v8_file : V8File
+unfolding clap_on_literals
+v8_file out file plain other some =
+    rw (no_dashes out plain, no_dash out plain, no_dash out plain, no_dashes file other, no_dash file other, no_dash file other, some) refl
+
 pub other_name : OtherName
 unfolding clap_on_literals
-other_name name words plain no_maps no_exec no_merge no_report no_check =
-    rw (no_help name words plain, no_maps, no_exec, no_merge, no_report, no_check, no_dashes name plain, no_dash name plain, no_dash name plain) refl
+other_name name words plain no_maps no_exec no_merge no_report no_check no_v8 =
+    rw (no_help name words plain, no_maps, no_exec, no_merge, no_report, no_check, no_v8, no_dashes name plain, no_dash name plain, no_dash name plain) refl

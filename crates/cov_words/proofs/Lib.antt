@@ -1,3 +1,2 @@
-pub mod PathLemmas
 pub mod WordsLemmas
 pub mod LawsLemmas

@@ -4,8 +4,8 @@ use Rattle.std.specs.List.{starts_with}
 use Rattle.std.specs.Str.{bytes_eq}
 use Rattle.std.specs.Str.Parse.{digits_value, without_leading_plus}
 use Rattle.clap.specs.ValueTests.{is_unsigned_in}
-use Rattle.cov_words.specs.Path.{source_path}
-use Rattle.cov_words.specs.declared.command.Command.TheVariants.{OnSource, OnCoverage}
+use Rattle.path_globs.specs.Source.{source_path}
+use Rattle.cov_words.specs.declared.command.Command.TheVariants.{OnSource, OnCoverage, OnV8}
 use Rattle.cov_words.specs.declared.command.SourceTask.TheVariants.{Maps, Exec}
 use Rattle.cov_words.specs.declared.command.CoverageTask.TheVariants.{Merge, Report, Check}
 use Rattle.cov_words.specs.declared.command.Reporter.TheVariants as reporter
@@ -52,8 +52,13 @@ abbrev pub CheckFiles : Type 0
 CheckFiles = (first second : List ℕ) → IsPlain first → IsPlain second → command_of (codes "check" ∷ first ∷ second ∷ [])
     ≡ Some (OnCoverage (Check (record { lines = None; statements = None; branches = None; functions = None })) (first ∷ second ∷ []))
 
--- another name than those of the five commands, whatever follows it
+-- `v8 --out P FILE`, where P is not empty
+abbrev pub V8File : Type 0
+V8File = (out file : List ℕ) → IsPlain out → IsPlain file → bytes_eq out [] ≡ false →
+    command_of (codes "v8" ∷ codes "--out" ∷ out ∷ file ∷ []) ≡ Some (OnV8 out (file ∷ []))
+
+-- another name than those of the six commands, whatever follows it
 abbrev pub OtherName : Type 0
 OtherName = (name : List ℕ) (words : List (List ℕ)) → IsPlain name → bytes_eq (codes "maps") name ≡ false → bytes_eq (codes "exec") name ≡ false →
-    bytes_eq (codes "merge") name ≡ false → bytes_eq (codes "report") name ≡ false → bytes_eq (codes "check") name ≡ false →
+    bytes_eq (codes "merge") name ≡ false → bytes_eq (codes "report") name ≡ false → bytes_eq (codes "check") name ≡ false → bytes_eq (codes "v8") name ≡ false →
     command_of (name ∷ words) ≡ None

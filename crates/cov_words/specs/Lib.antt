@@ -1,4 +1,3 @@
-pub mod Path
 pub mod Words
 pub mod WorkedWords
 pub mod Laws

@@ -5,6 +5,7 @@
 --     merge --out P FILE..
 --     report [--reporter R] FILE..
 --     check [--lines N] [--statements N] [--branches N] [--functions N] FILE..
+--     v8 --out P FILE..
 -- `--help` stands alone. All others are read as the kit's clap says: a form is clap's data, `fault_of` says of a form and words what is wrong with them,
 -- and `subcommand_of` the command that they name and what it finds for each of its arguments.
 use Rattle.std.specs.Prelude.{ℕ, Bool, true, false, List, [], ◌∷◌, Option, Some, None, option_map, option_and_then, if◌then◌else◌, nat_le, codes}
@@ -18,14 +19,14 @@ use Rattle.clap.specs.ValueTests.{is_unsigned_in}
 use Rattle.clap.specs.declared.builder.value_parser.ValueParser.TheVariants as parser
 use Rattle.cov_summary.specs.declared.shortfall.Thresholds.{Thresholds}
 use Rattle.cov_words.specs.declared.command.Command.{Command}
-use Rattle.cov_words.specs.declared.command.Command.TheVariants.{Help, OnSource, OnCoverage}
+use Rattle.cov_words.specs.declared.command.Command.TheVariants.{Help, OnSource, OnCoverage, OnV8}
 use Rattle.cov_words.specs.declared.command.SourceTask.{SourceTask}
 use Rattle.cov_words.specs.declared.command.SourceTask.TheVariants.{Maps, Exec}
 use Rattle.cov_words.specs.declared.command.CoverageTask.{CoverageTask}
 use Rattle.cov_words.specs.declared.command.CoverageTask.TheVariants.{Merge, Report, Check}
 use Rattle.cov_words.specs.declared.command.Reporter.{Reporter}
 use Rattle.cov_words.specs.declared.command.Reporter.TheVariants as reporter
-use Rattle.cov_words.specs.Path.{source_path}
+use Rattle.path_globs.specs.Source.{source_path}
 
 -- ---- the forms
 
@@ -84,6 +85,9 @@ with_thresholds form =
 abbrev pub check_form : App
 check_form = with_rule (with_thresholds (new_app (codes "check"))) files_rule
 
+abbrev pub v8_form : App
+v8_form = with_rule (with_rule (new_app (codes "v8")) out_rule) files_rule
+
 -- clap's own help is off, and the words don't begin with the program's name; with no version there is no `--version`
 abbrev pub bare : Shape → Shape
 bare form = record form { no_binary_name = true; disable_help_flag = true; disable_help_subcommand = true }
@@ -95,7 +99,7 @@ abbrev pub with_coverage_forms : App → App
 with_coverage_forms form = with_subcommand (with_subcommand (with_subcommand form merge_form.top) report_form.top) check_form.top
 
 abbrev pub cov_form : App
-cov_form = with_coverage_forms source_forms
+cov_form = with_subcommand (with_coverage_forms source_forms) v8_form.top
 
 -- ---- what the words ask
 
@@ -119,7 +123,7 @@ number_found name rows = option_and_then number_in (one_of name rows)
 abbrev pub turns_in : List Row → Option ℕ
 turns_in rows = number_found (codes "turns") rows
 
--- the path of `merge`, which is not empty
+-- the path of `merge` and of `v8`, which is not empty
 abbrev pub if_path : Text → Option Text
 if_path word = if bytes_eq word [] then None else Some word
 
@@ -172,6 +176,9 @@ on_source task rows = option_and_then (λ what. option_map (OnSource what) (file
 abbrev pub on_coverage : Option CoverageTask → List Row → Option Command
 on_coverage task rows = option_and_then (λ what. option_map (OnCoverage what) (files_in rows)) task
 
+abbrev pub on_v8 : List Row → Option Command
+on_v8 rows = option_and_then (λ out. option_map (OnV8 out) (files_in rows)) (out_in rows)
+
 -- what is to be done with coverage files, by the command's name
 abbrev pub coverage_task : Text → List Row → Option CoverageTask
 coverage_task name rows =
@@ -185,7 +192,8 @@ abbrev pub request_in : Text × List Row → Option Command
 request_in (name, rows) =
     if bytes_eq name (codes "maps") then on_source (Some Maps) rows
     else (if bytes_eq name (codes "exec") then on_source (exec_in rows) rows
-    else on_coverage (coverage_task name rows) rows)
+    else (if bytes_eq name (codes "v8") then on_v8 rows
+    else on_coverage (coverage_task name rows) rows))
 
 -- the command that the words name, where nothing is wrong with them
 abbrev pub found_in : List Text → Option (Text × List Row)

@@ -1,7 +1,7 @@
 -- Worked examples: what words ask.
 use Rattle.std.specs.Prelude.{◌≡◌, ℕ, List, [], ◌∷◌, map, Option, Some, None, codes}
 use Rattle.cov_words.specs.declared.command.Command.{Command}
-use Rattle.cov_words.specs.declared.command.Command.TheVariants.{Help, OnSource, OnCoverage}
+use Rattle.cov_words.specs.declared.command.Command.TheVariants.{Help, OnSource, OnCoverage, OnV8}
 use Rattle.cov_words.specs.declared.command.SourceTask.TheVariants as task
 use Rattle.cov_words.specs.declared.command.CoverageTask.TheVariants.{Merge, Report, Check}
 use Rattle.cov_words.specs.declared.command.Reporter.{Reporter}
@@ -99,6 +99,20 @@ check_rows =
 abbrev pub Checks : Type 0
 Checks = Asks check_rows
 
+-- `v8`, which needs P and one FILE or more, in any order
+abbrev pub v8 : List ℕ → List (List ℕ) → Option Command
+v8 out files = Some (OnV8 out files)
+
+abbrev pub v8_rows : List (List (List ℕ) × Option Command)
+v8_rows =
+    (codes "v8" ∷ codes "--out" ∷ codes "p" ∷ codes "a.json" ∷ [], v8 (codes "p") (codes "a.json" ∷ [])) ∷
+    (codes "v8" ∷ codes "a.json" ∷ codes "--out=p" ∷ codes "a.json" ∷ [], v8 (codes "p") (codes "a.json" ∷ codes "a.json" ∷ [])) ∷
+    (codes "v8" ∷ codes "--out" ∷ codes "p" ∷ codes "--" ∷ codes "-a" ∷ [], v8 (codes "p") (codes "-a" ∷ [])) ∷
+    []
+
+abbrev pub V8s : Type 0
+V8s = Asks v8_rows
+
 -- words with no reading
 abbrev pub unread : List (List (List ℕ))
 unread =
@@ -145,6 +159,10 @@ unread =
     (codes "merge" ∷ codes "--out=" ∷ codes "a.json" ∷ []) ∷
     (codes "merge" ∷ codes "--out" ∷ [] ∷ codes "a.json" ∷ []) ∷
     (codes "merge" ∷ codes "--out" ∷ codes "p" ∷ codes "--out" ∷ codes "q" ∷ codes "a.json" ∷ []) ∷
+    (codes "v8" ∷ codes "a.json" ∷ []) ∷
+    (codes "v8" ∷ codes "--out" ∷ codes "p" ∷ []) ∷
+    (codes "v8" ∷ codes "--out=" ∷ codes "a.json" ∷ []) ∷
+    (codes "v8" ∷ codes "--out" ∷ codes "p" ∷ codes "--reporter" ∷ codes "json" ∷ codes "a.json" ∷ []) ∷
     (codes "report" ∷ []) ∷
     (codes "report" ∷ codes "--reporter" ∷ codes "html" ∷ codes "a.json" ∷ []) ∷
     (codes "report" ∷ codes "--reporter=" ∷ codes "a.json" ∷ []) ∷

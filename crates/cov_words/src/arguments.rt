@@ -3,10 +3,10 @@ ghost use Rattle.clap.specs.Words.{all_of, first_of, found_of, rows_of};
 ghost use Rattle.cov_words.specs.Words as spec;
 
 use crate::Reporter;
-use crate::path::source_path;
 use clap::ArgMatches;
 use cov_summary::Thresholds;
 use items::{Items, Memory, Text};
+use path_globs::source_path;
 use std::alloc::Global;
 
 /// The number found for an option of this name.

@@ -16,6 +16,12 @@ pub enum Command {
         task: CoverageTask,
         files: Items<Text>,
     },
+    /// The sums of what V8's coverage files at these paths tell of their sources are put at a path,
+    /// which isn't empty.
+    OnV8 {
+        out: Text,
+        files: Items<Text>,
+    },
 }
 
 /// What is done with a source file.

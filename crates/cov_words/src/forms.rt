@@ -48,6 +48,13 @@ pub(crate) fn check<'a>(alloc: Global) -> Result<Command<'a>, Memory>
     with_thresholds(alloc, Command::new(alloc, "check"))?.arg(files(alloc))
 }
 
+/// The form of `v8`.
+pub(crate) fn v8<'a>(alloc: Global) -> Result<Command<'a>, Memory>
+    ensures { IfOk result (λ form. (app_of form ≡ spec.v8_form) × ((fields_of form).has_globals ≡ false)) }
+{
+    Command::new(alloc, "v8").arg(out(alloc))?.arg(files(alloc))
+}
+
 /// A form with an option for the threshold of each metric.
 fn with_thresholds<'a>(alloc: Global, form: Command<'a>) -> Result<Command<'a>, Memory>
     requires { (fields_of form).has_globals ≡ false }

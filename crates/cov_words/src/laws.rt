@@ -1,4 +1,4 @@
-ghost use Rattle.cov_words.specs.Laws.{MapsFile, ExecFile, ExecTurns, NoTurns, OneFile, MergeFile, ReportFile, CheckFiles, OtherName};
+ghost use Rattle.cov_words.specs.Laws.{MapsFile, ExecFile, ExecTurns, NoTurns, OneFile, MergeFile, ReportFile, CheckFiles, V8File, OtherName};
 
 /// What the plain forms ask, for any words.
 pub fn plain_words()
@@ -10,5 +10,6 @@ pub fn plain_words()
     ensures merge_file { MergeFile }
     ensures report_file { ReportFile }
     ensures check_files { CheckFiles }
+    ensures v8_file { V8File }
     ensures other_name { OtherName }
 {}

@@ -1,16 +1,14 @@
-//! The words of the command line, and the source paths that they name.
+//! The words of the command line, and what they ask for.
 #![tactic(auto)]
 
 mod arguments;
 mod command;
 mod forms;
 mod laws;
-mod path;
 mod rows;
 mod words;
 
 pub use command::{Command, CoverageTask, Reporter, SourceTask};
 pub use laws::plain_words;
-pub use path::source_path;
 pub use rows::worked_words;
 pub use words::command_of;

@@ -1,4 +1,4 @@
-ghost use Rattle.cov_words.specs.WorkedWords.{HelpAlone, Maps, Exec, Merges, Reports, Checks, NoReading};
+ghost use Rattle.cov_words.specs.WorkedWords.{HelpAlone, Maps, Exec, Merges, Reports, Checks, V8s, NoReading};
 
 /// What words ask for by the definition, worked out: it computes.
 pub fn worked_words()
@@ -8,5 +8,6 @@ pub fn worked_words()
     ensures merges { Merges }
     ensures reports { Reports }
     ensures checks { Checks }
+    ensures v8s { V8s }
     ensures no_reading { NoReading }
 {}

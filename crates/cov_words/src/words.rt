@@ -4,7 +4,7 @@ ghost use Rattle.clap.specs.declared.builder.command.Command.TheViews.{out-Comma
 ghost use Rattle.cov_words.specs.Words as spec;
 
 use crate::arguments::{file_in, files_in, out_in, reporter_in, thresholds_in, turns_in};
-use crate::forms::{check, exec, maps, merge, report};
+use crate::forms::{check, exec, maps, merge, report, v8};
 use crate::{Command, CoverageTask, SourceTask};
 use clap::ArgMatches;
 use clap::error::ErrorKind;
@@ -60,7 +60,7 @@ fn matches_of<'a>(alloc: Global, words: &'a [String]) -> Result<Option<ArgMatche
 fn cov<'a>(alloc: Global) -> Result<clap::Command<'a>, Memory>
     ensures { IfOk result (λ form. app_of form ≡ spec.cov_form) }
 {
-    with_coverage_forms(alloc, source_forms(alloc)?)
+    with_coverage_forms(alloc, source_forms(alloc)?)?.subcommand(v8(alloc)?)
 }
 
 /// The forms of the commands on a source.
@@ -96,6 +96,7 @@ fn request_in(alloc: Global, matches: &ArgMatches<'_>) -> Result<Option<Command>
     match name {
         "maps" => on_source(alloc, Some(SourceTask::Maps), own),
         "exec" => on_source(alloc, exec_in(own), own),
+        "v8" => on_v8(alloc, own),
         _ => on_coverage(alloc, coverage_task(alloc, name, own)?, own),
     }
 }
@@ -130,6 +131,19 @@ fn on_coverage(
     };
     match files_in(alloc, own)? {
         Some(files) => Ok(Some(Command::OnCoverage { task, files })),
+        None => Ok(None),
+    }
+}
+
+/// A command on the V8 files that were found.
+fn on_v8(alloc: Global, own: &ArgMatches<'_>) -> Result<Option<Command>, Memory>
+    ensures { IfOk result (λ found. found ≡ spec.on_v8 (rows_of (found_of own.now))) }
+{
+    let Some(out) = out_in(alloc, own)? else {
+        return Ok(None);
+    };
+    match files_in(alloc, own)? {
+        Some(files) => Ok(Some(Command::OnV8 { out, files })),
         None => Ok(None),
     }
 }

@@ -2,3 +2,4 @@ mod NormalFormLemmas
 mod SpecifierLemmas
 mod BesideLemmas
 mod WildcardsLemmas
+mod SourceLemmas

@@ -1,6 +1,7 @@
 -- Paths and specifiers, and what they come to.
 use Rattle.std.specs.Prelude.{◌≡◌, ℕ, Bool, true, false, List, [], ◌∷◌, map, Option, Some, None, codes}
 use Rattle.path_globs.specs.NormalForm.{normal}
+use Rattle.path_globs.specs.Source.{source_path}
 use Rattle.path_globs.specs.Specifier.{resolve}
 use Rattle.path_globs.specs.Beside.{beside}
 use Rattle.path_globs.specs.Wildcards.{matches}
@@ -27,6 +28,22 @@ normal_rows =
 
 abbrev pub NormalForms : Type 0
 NormalForms = Agrees normal normal_rows
+
+abbrev source_rows : List (List ℕ × Option (List ℕ))
+source_rows =
+    (codes "a.js", Some (codes "a.js")) ∷
+    (codes "/w/./src/../a.js", Some (codes "/w/a.js")) ∷
+    (codes ".js", Some (codes ".js")) ∷
+    (codes "a/.js/", Some (codes "a/.js")) ∷
+    (codes "a.mjs", None) ∷
+    (codes "a.js?b", None) ∷
+    (codes "../a.js", None) ∷
+    (codes "node:fs", None) ∷
+    ([], None) ∷
+    []
+
+abbrev pub SourcePaths : Type 0
+SourcePaths = Agrees source_path source_rows
 
 -- the path of the file that asks, and what it asks for
 abbrev resolve_rows : List ((List ℕ × List ℕ) × Option (List ℕ))

@@ -34,6 +34,10 @@ returns-in-Err-clause-prefix g c = nothing_prints c.args.task.now c.args.files.n
 pub returns-in-Err-clause-one_line : goal.returns-in-Err-clause-one_line
 returns-in-Err-clause-one_line g c = λ memory. let said = c.complain.ensures.one_line in says_at_most _ _ (fault_said g c) said.1 said.2
 
+pub returns-then-is_empty-clause-defined : goal.returns-then-is_empty-clause-defined
+returns-then-is_empty-clause-defined g c =
+    prints_defined c.args.task.now c.args.files.now (g.S.Store.held c.args.store.now) c.in-Ok.sums c.in-Ok.ensures.sums _ _ c.perform.ensures.prefix
+
 pub returns-in-Ok-perform-clause-one_line : goal.returns-in-Ok-perform-clause-one_line
 returns-in-Ok-perform-clause-one_line g c = λ memory.
     let told = c.complain-in-Ok-perform.ensures.one_line in

@@ -26,6 +26,10 @@ pub returns-clause-checks : goal.returns-clause-checks
 unfolding clap_on_literals
 returns-clause-checks c = refl
 
+pub returns-clause-v8s : goal.returns-clause-v8s
+unfolding clap_on_literals
+returns-clause-v8s c = refl
+
 pub returns-clause-no_reading : goal.returns-clause-no_reading
 unfolding clap_on_literals
 returns-clause-no_reading c = refl

@@ -7,6 +7,6 @@ use Rattle.path_globs.specs.NormalForm.{normal}
 abbrev pub if_source : List ℕ → Option (List ℕ)
 if_source path = if ends_with nat_eq path (codes ".js") then Some path else None
 
--- the source path that a word names: its normal form, where that ends with `.js`
+-- the source path that a text names: its normal form, where that ends with `.js`
 abbrev pub source_path : List ℕ → Option (List ℕ)
-source_path word = option_and_then if_source (normal word)
+source_path text = option_and_then if_source (normal text)

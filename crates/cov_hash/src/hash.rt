@@ -1,5 +1,5 @@
 ghost use Rattle.std.specs.Prelude.{◌≡◌, IfOk, string_bytes};
-ghost use Rattle.cov_tool.specs.Hash.{hash_text};
+ghost use Rattle.cov_hash.specs.Hash.{hash_text};
 
 use items::Memory;
 use sha1::Sha1;

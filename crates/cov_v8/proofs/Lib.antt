@@ -1,0 +1,5 @@
+pub mod ReaderLemmas
+pub mod PlaceLemmas
+pub mod RangeLemmas
+pub mod InsideLemmas
+pub mod ShortestLemmas

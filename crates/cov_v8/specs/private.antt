@@ -1,0 +1,4 @@
+pub mod Table
+pub mod Pending
+pub mod Inside
+pub mod Steps
