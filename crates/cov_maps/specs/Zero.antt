@@ -12,7 +12,7 @@ use Rattle.cov_object.specs.declared.location.Location.{Location}
 use Rattle.cov_object.specs.declared.file.StatementCoverage.{StatementCoverage}
 use Rattle.cov_object.specs.declared.file.FunctionCoverage.{FunctionCoverage}
 use Rattle.cov_object.specs.declared.file.PathCoverage.{PathCoverage}
-use Rattle.cov_object.specs.declared.file.BranchCoverage.{BranchCoverage}
+use Rattle.cov_object.specs.Branch.{BranchCoverage, settled}
 use Rattle.cov_object.specs.declared.file.FileCoverage.{FileCoverage}
 
 -- how a kind of branch is spelled
@@ -46,13 +46,13 @@ zero_functions (construct.Function name decl loc ∷ rest) =
     record { name = name; declaration = location_at decl; location = location_at loc; count = 0 } ∷ zero_functions rest
 zero_functions (construct.Branch _ _ _ ∷ rest) = zero_functions rest
 
--- the branches
+-- the branches; no `else` that a text tells has the place of its `if`
 abbrev pub zero_branches : List Construct → List BranchCoverage
 zero_branches [] = []
 zero_branches (construct.Statement _ ∷ rest) = zero_branches rest
 zero_branches (construct.Function _ _ _ ∷ rest) = zero_branches rest
 zero_branches (construct.Branch kind loc paths ∷ rest) =
-    record { kind = spelling_of kind; location = location_at loc; paths = map zero_path paths } ∷ zero_branches rest
+    settled (record { kind = spelling_of kind; location = location_at loc; paths = map zero_path paths }) ∷ zero_branches rest
 
 -- the coverage of a file with this path and this hash, of which these are the constructs: each kind is numbered from 0
 abbrev pub zero_file : List ℕ → List ℕ → List Construct → FileCoverage

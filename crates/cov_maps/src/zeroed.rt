@@ -13,7 +13,8 @@ use std::alloc::Global;
 
 /// The coverage of a file in which nothing has run: each construct of a list with the count 0, the
 /// constructs of each kind in the list's order. Each line in the list counts from 1. A path of a
-/// branch that has no place stands nowhere.
+/// branch that has no place stands nowhere, and so does the second of two paths of an `if` that has
+/// the place of the whole `if`.
 pub fn zero(
     alloc: Global,
     path: &str,
@@ -77,11 +78,9 @@ fn branches_in(alloc: Global, list: &[Construct]) -> Result<Vec<BranchCoverage>,
     let mut branches = Vec::new(alloc);
     for construct in list {
         if let Construct::Branch { kind, loc, paths } = construct {
-            branches.push(BranchCoverage {
-                kind: Text::from_str(alloc, spelling(*kind))?,
-                location: location_at(*loc),
-                paths: paths_of(alloc, paths.as_slice())?,
-            })?;
+            let kind = spelling(*kind);
+            let paths = paths_of(alloc, paths.as_slice())?;
+            branches.push(BranchCoverage::new(alloc, kind, location_at(*loc), paths)?)?;
         }
     }
     Ok(branches)

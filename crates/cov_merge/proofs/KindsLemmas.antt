@@ -1,5 +1,5 @@
 -- The laws of merging, for statements, functions and branches.
-use Rattle.std.proofs.Common.{◌≡◌, ℕ, ◌&&◌, suc, Bool, true, false, List, [], ◌∷◌, length, map, Result, Ok, Err, nat_eq, refl, sym, ap, arith}
+use Rattle.std.proofs.Common.{◌≡◌, ℕ, ◌&&◌, Bool, List, [], ◌∷◌, length, map, Result, Ok, Err, nat_eq, refl, sym, ap, arith}
 use Rattle.std.specs.List.{enumerate_from}
 use Rattle.std.specs.Cmp.{IsEquivalence, and_equiv, on_equiv, nat_eq_equiv}
 use Rattle.std.specs.Cmp.Lexicographic.{pointwise, options_equiv, lists_equiv}
@@ -8,18 +8,20 @@ use Rattle.cov_object.specs.declared.location.Location.{Location}
 use Rattle.cov_object.specs.declared.file.StatementCoverage.{StatementCoverage}
 use Rattle.cov_object.specs.declared.file.FunctionCoverage.{FunctionCoverage}
 use Rattle.cov_object.specs.declared.file.PathCoverage.{PathCoverage}
-use Rattle.cov_object.specs.declared.file.BranchCoverage.{BranchCoverage}
+use Rattle.cov_object.specs.Branch.{BranchCoverage}
 use Rattle.cov_object.specs.declared.file.FileCoverage.{FileCoverage}
 use Rattle.cov_merge.specs.declared.fault.MergeFault.{MergeFault}
 use Rattle.cov_merge.specs.declared.key.Counter.TheVariants.{Branch}
 use Rattle.cov_merge.specs.Answer.{and_then}
 use Rattle.cov_merge.specs.Same.{same_position, same_location}
 use Rattle.cov_merge.specs.Kinds.{statements, functions, branches, statement_with, function_with, paths_with}
+use Rattle.cov_merge.specs.private.Lengths.{branches_long}
 use Rattle.cov_merge.specs.Entries.{merged_entries}
 use Rattle.cov_merge.specs.Files.{merged_file, hash_of, source_map_of}
 use Rattle.cov_merge.specs.Laws.{IsGroupingFree, IsLeftToRight}
 use Rattle.cov_merge.proofs.SumsLemmas.{counts_of}
-use Rattle.cov_merge.proofs.LawsLemmas.{Sound, grouped_at, merged_again, suc-same}
+use Rattle.cov_merge.proofs.Lengths.{suc-same}
+use Rattle.cov_merge.proofs.LawsLemmas.{Sound, grouped_at, merged_again}
 
 position_equiv : IsEquivalence same_position
 position_equiv = and_equiv (on_equiv (λ (p : Position). p.line) nat_eq_equiv) (on_equiv (λ (p : Position). p.column) (options_equiv nat_eq_equiv))
@@ -122,21 +124,11 @@ paths-told (path ∷ paths) (count ∷ counts) e = ap (λ rest. path.location �
 abbrev with_paths : BranchCoverage → List PathCoverage → BranchCoverage
 with_paths branch paths = record { kind = branch.kind; location = branch.location; paths = paths }
 
-right-true : (a b : Bool) → (a && b) ≡ true → b ≡ true
-right-true true b h = h
-right-true false b h = cc
-
-paths-long : (paths others : List PathCoverage) → pointwise same_path paths others ≡ true → length (counts_of paths) ≡ length (counts_of others)
-paths-long [] [] h = refl
-paths-long [] (other ∷ others) h = cc
-paths-long (path ∷ paths) [] h = cc
-paths-long (path ∷ paths) (other ∷ others) h = ap suc (paths-long paths others (right-true (same_path path other) (pointwise same_path paths others) h))
-
 pub branches_sound : Sound branches
 branches_sound = record {
   equiv = and_equiv (on_equiv (λ (b : BranchCoverage). b.kind) (lists_equiv nat_eq_equiv))
       (and_equiv (on_equiv (λ (b : BranchCoverage). b.location) location_equiv) (on_equiv (λ (b : BranchCoverage). b.paths) (lists_equiv (on_equiv (λ (p : PathCoverage). p.location) location_equiv))));
-  long = λ a b h. paths-long a.paths b.paths (right-true (same_location a.location b.location) _ (right-true (pointwise nat_eq a.kind b.kind) _ h));
+  long = branches_long;
   given = λ branch counts e. paths-given branch.paths counts e;
   twice = λ branch counts sums e h. ap (with_paths branch) (paths-twice branch.paths counts sums e);
   told = λ branch counts place e. ap (λ locations. Branch branch.kind branch.location locations place) (paths-told branch.paths counts e);

@@ -10,8 +10,10 @@ use Rattle.cov_merge.specs.declared.fault.MergeFault.TheVariants.{CountTooLarge}
 use Rattle.cov_merge.specs.Answer.{and_then}
 use Rattle.cov_merge.specs.Kind.{Kind}
 use Rattle.cov_merge.specs.Sums.{limit, running, plus, added, summed}
+use Rattle.cov_merge.specs.private.Lengths.{AreLong as AreLongFor}
 use Rattle.cov_merge.specs.private.Sums.{AreCounts}
 use Rattle.cov_merge.specs.Entries.{too_large, total_or, total, totals, entries_of, merged_entries}
+use Rattle.cov_merge.proofs.Lengths.{suc-same, long-added as long-added_for, long-folded}
 use Rattle.cov_merge.specs.Laws.{count_at, count_of, has_key, IsSummed, HasTheirKeys, HasEachOnce, IsOrderFree, SumsAlone}
 
 -- ---- sums that stay below the limit are exact
@@ -25,14 +27,6 @@ running-by false sum count e below =
 
 running-exact : (sum count : ℕ) → running sum count < limit → (running sum count ≡ sum + count) × (sum < limit)
 running-exact sum count below = running-by (nat_lt sum limit) sum count refl below
-
-pub suc-same : (m n : ℕ) → suc m ≡ suc n → m ≡ n
-suc-same m n e = cc
-
-length-plus : (sums counts : List ℕ) → length sums ≡ length counts → length (plus sums counts) ≡ length sums
-length-plus [] counts e = refl
-length-plus (sum ∷ sums) [] e = absurd (omega arith)
-length-plus (sum ∷ sums) (count ∷ counts) e = ap suc (length-plus sums counts (suc-same _ _ e))
 
 plus-below : (sums counts : List ℕ) → length sums ≡ length counts → AreCounts (plus sums counts) → AreCounts sums
 plus-below [] counts e below = tt
@@ -139,8 +133,7 @@ module _ {T : Type 0} (kind : Kind T) where
 
   -- as many sums as counts
   abbrev AreLong : Tallies → Type 0
-  AreLong [] = Unit {0}
-  AreLong (t ∷ ts) = (length t.1 ≡ length (kind.counts t.0)) × AreLong ts
+  AreLong ts = AreLongFor kind ts
 
   abbrev AreBelow : Tallies → Type 0
   AreBelow [] = Unit {0}
@@ -161,14 +154,8 @@ module _ {T : Type 0} (kind : Kind T) where
   added-no t ts e h = ap (λ b. cond b ((t.0, plus t.1 (kind.counts e)) ∷ ts) (t ∷ added kind ts e)) h
 
   module _ (sound : Sound kind) where
-    long-by : (b : Bool) (t : T × List ℕ) (ts : Tallies) (e : T) → kind.same t.0 e ≡ b → AreLong (t ∷ ts) → AreLong (added kind ts e) → AreLong (added kind (t ∷ ts) e)
-    long-by true t ts e h long rest =
-        subst AreLong (sym (added-yes t ts e h)) (length-plus t.1 (kind.counts e) (long.0 ∙ sound.long t.0 e h) ∙ long.0, long.1)
-    long-by false t ts e h long rest = subst AreLong (sym (added-no t ts e h)) (long.0, rest)
-
     long-added : (ts : Tallies) (e : T) → AreLong ts → AreLong (added kind ts e)
-    long-added [] e long = (refl, tt)
-    long-added (t ∷ ts) e long = long-by (kind.same t.0 e) t ts e refl long (long-added ts e long.1)
+    long-added ts e long = long-added_for kind sound.long ts e long
 
     below-by : (b : Bool) (t : T × List ℕ) (ts : Tallies) (e : T) → kind.same t.0 e ≡ b → AreLong (t ∷ ts) → (AreBelow (added kind ts e) → AreBelow ts) → AreBelow (added kind (t ∷ ts) e) → AreBelow (t ∷ ts)
     below-by true t ts e h long rest below =
@@ -216,8 +203,7 @@ module _ {T : Type 0} (kind : Kind T) where
     below-fold ts (e ∷ es) long below = below-added ts e long (below-fold (added kind ts e) es (long-added ts e long) below)
 
     long-fold : (ts : Tallies) (es : List T) → AreLong ts → AreLong (fold (added kind) ts es)
-    long-fold ts [] long = long
-    long-fold ts (e ∷ es) long = long-fold (added kind ts e) es (long-added ts e long)
+    long-fold ts es long = long-folded kind sound.long ts es long
 
     sum-fold : (ts : Tallies) (es : List T) (key : T) (place : ℕ) → AreLong ts → AreBelow (fold (added kind) ts es) →
         sum_of key place (fold (added kind) ts es) ≡ sum_of key place ts + count_of kind key place es

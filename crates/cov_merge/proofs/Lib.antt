@@ -1,7 +1,9 @@
 pub mod Groups
 pub mod KindsLemmas
 pub mod LawsLemmas
+pub mod Lengths
 pub mod MapsLemmas
 pub mod OntoLemmas
 pub mod Places
+pub mod Settled
 pub mod SumsLemmas

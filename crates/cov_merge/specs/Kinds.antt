@@ -6,7 +6,7 @@ use Rattle.std.specs.Cmp.Lexicographic.{pointwise}
 use Rattle.cov_object.specs.declared.file.StatementCoverage.{StatementCoverage}
 use Rattle.cov_object.specs.declared.file.FunctionCoverage.{FunctionCoverage}
 use Rattle.cov_object.specs.declared.file.PathCoverage.{PathCoverage}
-use Rattle.cov_object.specs.declared.file.BranchCoverage.{BranchCoverage}
+use Rattle.cov_object.specs.Branch.{BranchCoverage}
 use Rattle.cov_merge.specs.declared.key.Counter.TheVariants.{Statement, Function, Branch}
 use Rattle.cov_merge.specs.Kind.{Kind}
 use Rattle.cov_merge.specs.Same.{same_location, same_text}

@@ -1,4 +1,5 @@
 pub mod Groups
+pub mod Lengths
 pub mod Onto
 pub mod Order
 pub mod Orders

@@ -15,6 +15,7 @@ impl Counted for BranchCoverage {
     ghost use Rattle.cov_merge.specs.Kinds.{branches};
     ghost use Rattle.cov_merge.specs.private.Order.{branch_cmp};
     ghost use Rattle.cov_merge.specs.private.Orders.{branch_total, branch_tells};
+    ghost use Rattle.cov_merge.specs.private.Lengths.{branches_long};
 
     ghost kind = { branches };
 
@@ -24,38 +25,37 @@ impl Counted for BranchCoverage {
 
     ghost tells = { branch_tells };
 
+    ghost long = { branches_long };
+
     fn entries(file: &FileCoverage) -> &[(u64, BranchCoverage)] {
         file.branches.as_slice()
     }
 
     fn compare(&self, other: &BranchCoverage) -> Ordering {
-        let kinds = self.kind.as_str().cmp(other.kind.as_str());
+        let kinds = self.kind().cmp(other.kind());
         kinds
-            .then_with(|| compare_locations(self.location, other.location))
-            .then_with(|| compare_paths(self.paths.as_slice(), other.paths.as_slice()))
+            .then_with(|| compare_locations(self.location(), other.location()))
+            .then_with(|| compare_paths(self.paths(), other.paths()))
     }
 
     fn first_sums(&self, alloc: Global) -> Result<Vec<u64>, Memory> {
-        sums_of_paths(alloc, self.paths.as_slice())
+        sums_of_paths(alloc, self.paths())
     }
 
     fn add_to(&self, sums: &mut Vec<u64>) {
-        add_paths(sums, self.paths.as_slice());
+        add_paths(sums, self.paths());
     }
 
     fn with_counts(&self, alloc: Global, sums: &[u64]) -> Result<BranchCoverage, Memory> {
-        Ok(BranchCoverage {
-            kind: Text::from_str(alloc, self.kind.as_str())?,
-            location: self.location,
-            paths: counted_paths(alloc, self.paths.as_slice(), sums)?,
-        })
+        let paths = counted_paths(alloc, self.paths(), sums)?;
+        BranchCoverage::new(alloc, self.kind(), self.location(), paths)
     }
 
     fn counter(&self, alloc: Global, place: usize) -> Result<Counter, Memory> {
         Ok(Counter::Branch {
-            kind: Text::from_str(alloc, self.kind.as_str())?,
-            location: self.location,
-            locations: path_locations(alloc, self.paths.as_slice())?,
+            kind: Text::from_str(alloc, self.kind())?,
+            location: self.location(),
+            locations: path_locations(alloc, self.paths())?,
             path: place,
         })
     }

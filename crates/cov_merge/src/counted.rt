@@ -1,4 +1,4 @@
-ghost use Rattle.std.specs.Prelude.{◌≡◌, ℕ, IfOk};
+ghost use Rattle.std.specs.Prelude.{◌≡◌, ℕ, length, true, IfOk};
 ghost use Rattle.std.specs.Cmp.{IsTotalOrder};
 ghost use Rattle.std.specs.Ordering.{eq_by_cmp};
 ghost use Rattle.std.specs.declared.cmp.Ordering.{Ordering};
@@ -38,7 +38,8 @@ pub(crate) trait Counted: Drop {
 
     // The same with these sums as its counts.
     fn with_counts(&self, alloc: Global, sums: &[u64]) -> Result<Self, Memory>
-        requires { AreCounts sums.now }
+        requires counts { AreCounts sums.now }
+        requires long { length sums.now ≡ length (kind.counts self.now) }
         ensures { IfOk result (λ entry. entry ≡ kind.with_counts self.now sums.now) };
 
     // What names one of its counts.
@@ -49,4 +50,7 @@ pub(crate) trait Counted: Drop {
     ghost total: { IsTotalOrder order };
 
     ghost tells: { (a b : Self) → eq_by_cmp order a b ≡ kind.same a b };
+
+    // what has the same key has as many counts
+    ghost long: { (a b : Self) → kind.same a b ≡ true → length (kind.counts a) ≡ length (kind.counts b) };
 }

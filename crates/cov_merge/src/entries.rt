@@ -1,4 +1,4 @@
-ghost use Rattle.std.specs.Prelude.{◌≡◌, map, IfOk};
+ghost use Rattle.std.specs.Prelude.{◌≡◌, map, length, IfOk};
 ghost use Rattle.cov_merge.specs.Answer.{Answers};
 ghost use Rattle.cov_merge.specs.Sums as spec;
 ghost use Rattle.cov_merge.specs.Entries.{entries_of, merged_entries, total};
@@ -49,6 +49,7 @@ fn sum_up<'a, T: Counted>(
 
 // An entry with its sums.
 fn total_of<T: Counted>(alloc: Global, path: &str, tally: &Tally<'_, T>) -> Result<T, MergeFault>
+    requires { length tally.now.sums.items ≡ length (T.kind.counts tally.now.entry.now) }
     ensures { Answers result (total T.kind path.now (tally.now.entry.now, tally.now.sums.items)) }
 {
     match first_too_large(tally.sums.as_slice()) {

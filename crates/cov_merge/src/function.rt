@@ -8,6 +8,7 @@ use std::alloc::Global;
 use std::cmp::Ordering;
 
 impl Counted for FunctionCoverage {
+    ghost use Rattle.std.specs.Prelude.{refl};
     ghost use Rattle.cov_merge.specs.Kinds.{functions};
     ghost use Rattle.cov_merge.specs.private.Order.{function_cmp};
     ghost use Rattle.cov_merge.specs.private.Orders.{function_total, function_tells};
@@ -19,6 +20,8 @@ impl Counted for FunctionCoverage {
     ghost total = { function_total };
 
     ghost tells = { function_tells };
+
+    ghost long = { λ _ _ _. refl };
 
     fn entries(file: &FileCoverage) -> &[(u64, FunctionCoverage)] {
         file.functions.as_slice()

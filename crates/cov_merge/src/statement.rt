@@ -8,6 +8,7 @@ use std::alloc::Global;
 use std::cmp::Ordering;
 
 impl Counted for StatementCoverage {
+    ghost use Rattle.std.specs.Prelude.{refl};
     ghost use Rattle.cov_merge.specs.Kinds.{statements};
     ghost use Rattle.cov_merge.specs.private.Order.{statement_cmp};
     ghost use Rattle.cov_merge.specs.private.Orders.{statement_total, statement_tells};
@@ -19,6 +20,8 @@ impl Counted for StatementCoverage {
     ghost total = { statement_total };
 
     ghost tells = { statement_tells };
+
+    ghost long = { λ _ _ _. refl };
 
     fn entries(file: &FileCoverage) -> &[(u64, StatementCoverage)] {
         file.statements.as_slice()

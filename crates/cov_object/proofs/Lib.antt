@@ -1,3 +1,4 @@
+pub mod BranchLemmas
 pub mod ByFile
 pub mod Files
 pub mod DigitIds

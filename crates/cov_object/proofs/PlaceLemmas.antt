@@ -8,7 +8,7 @@ use Rattle.cov_object.specs.declared.location.Position.{Position}
 use Rattle.cov_object.specs.declared.location.Location.{Location}
 use Rattle.cov_object.specs.declared.file.FunctionCoverage.{FunctionCoverage}
 use Rattle.cov_object.specs.declared.file.PathCoverage.{PathCoverage}
-use Rattle.cov_object.specs.declared.file.BranchCoverage.{BranchCoverage}
+use Rattle.cov_object.specs.Branch.{BranchCoverage}
 use Rattle.cov_object.specs.Json.{object_of, count_data, column_data, position_data, location_data, function_data, branch_data}
 
 -- two values, each after a literal, and the closing brace
@@ -77,15 +77,15 @@ function-written function name o0 o1 o2 o3 o4 o5 o6 o7 same e1 e2 e3 e4 e5 e6 e7
     three_pieces _ _ _ declaration location (string function.name) o0 o1 o2 o3 o4 o5 o6 o7 e1 e2 e3 e4 e5 (e6 ∙ ap (λ text. o5 ++ compact_text (string text)) same) e7
     ∙ ap (λ text. o0 ++ text) (sym (function-text (string function.name) declaration location))
 
-pub branch-written : (branch : BranchCoverage) (kind : List ℕ) (paths : List PathCoverage) (o0 o1 o2 o3 o4 o5 o6 o7 : List ℕ) → kind ≡ branch.kind → paths ≡ branch.paths →
-    o1 ≡ o0 ++ codes "{\"loc\":" → o2 ≡ o1 ++ compact_text (location_data branch.location) → o3 ≡ o2 ++ codes ",\"locations\":" →
+pub branch-written : (branch : BranchCoverage) (kind : List ℕ) (place : Location) (paths : List PathCoverage) (o0 o1 o2 o3 o4 o5 o6 o7 : List ℕ) → kind ≡ branch.kind → place ≡ branch.location → paths ≡ branch.paths →
+    o1 ≡ o0 ++ codes "{\"loc\":" → o2 ≡ o1 ++ compact_text (location_data place) → o3 ≡ o2 ++ codes ",\"locations\":" →
     o4 ≡ o3 ++ compact_text (array (items_of (map (λ path. location_data path.location) paths))) →
     o5 ≡ o4 ++ codes ",\"type\":" → o6 ≡ o5 ++ compact_text (string kind) → o7 ≡ o6 ++ 125 ∷ [] →
     o7 ≡ o0 ++ compact_text (branch_data branch)
-branch-written branch kind paths o0 o1 o2 o3 o4 o5 o6 o7 same_kind same_paths e1 e2 e3 e4 e5 e6 e7 =
+branch-written branch kind place paths o0 o1 o2 o3 o4 o5 o6 o7 same_kind same_place same_paths e1 e2 e3 e4 e5 e6 e7 =
     let location = location_data branch.location in
     let locations = array (items_of (map (λ path. location_data path.location) branch.paths)) in
-    three_pieces _ _ _ location locations (string branch.kind) o0 o1 o2 o3 o4 o5 o6 o7 e1 e2 e3
+    three_pieces _ _ _ location locations (string branch.kind) o0 o1 o2 o3 o4 o5 o6 o7 e1 (e2 ∙ ap (λ l. o1 ++ compact_text (location_data l)) same_place) e3
     (e4 ∙ ap (λ ps. o3 ++ compact_text (array (items_of (map (λ path. location_data path.location) ps)))) same_paths)
     e5 (e6 ∙ ap (λ text. o5 ++ compact_text (string text)) same_kind) e7
     ∙ ap (λ text. o0 ++ text) (sym (branch-text location (string branch.kind) locations))

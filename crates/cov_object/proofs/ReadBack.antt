@@ -1,5 +1,5 @@
 -- What is written is read back: places, counts, things under their ids, files.
-use Rattle.std.proofs.Common.{◌≡◌, ℕ, IsUtf8, ◌+◌, ◌^◌, ◌<◌, ◌&&◌, nat_lt, List, [], ◌∷◌, map, fold, Bool, true, cond, Option, Some, None, IfSome, option_map, option_and_then, Result, Ok, Err, codes, decimal, refl, sym, ap, ◌∙◌, subst, lt-ltb}
+use Rattle.std.proofs.Common.{◌≡◌, ℕ, IsUtf8, ◌+◌, ◌^◌, ◌<◌, ◌&&◌, nat_lt, bytes_eq, List, [], ◌∷◌, map, fold, Bool, true, false, cond, Option, Some, None, IfSome, option_map, option_and_then, Result, Ok, Err, codes, decimal, refl, sym, ap, ◌∙◌, subst, lt-ltb}
 use Rattle.std.specs.Ordering.{nat_cmp}
 use Rattle.std.specs.List.Sorted.{IsStrictlySortedBy}
 use Rattle.std.proofs.lemmas.Bool.{eq-eqb}
@@ -16,7 +16,7 @@ use Rattle.cov_object.specs.declared.location.Location.{Location}
 use Rattle.cov_object.specs.declared.file.StatementCoverage.{StatementCoverage}
 use Rattle.cov_object.specs.declared.file.FunctionCoverage.{FunctionCoverage}
 use Rattle.cov_object.specs.declared.file.PathCoverage.{PathCoverage}
-use Rattle.cov_object.specs.declared.file.BranchCoverage.{BranchCoverage}
+use Rattle.cov_object.specs.Branch.{BranchCoverage, if_paths, settled, IsSettled}
 use Rattle.cov_object.specs.declared.file.FileCoverage.{FileCoverage}
 use Rattle.cov_object.specs.SourceMapText.{data_of, IsSourceMap}
 use Rattle.cov_object.specs.Files.{AreInOrder, HaveSmallIds}
@@ -81,9 +81,9 @@ zero_function function = record { name = function.name; declaration = function.d
 
 function-returns : (f : FunctionCoverage) → IsFunction f → Returns spec.function_of spec.fits_always spec.function_counted function_data (λ t. count_data t.count) zero_function f
 function-returns f formed = record {
-  described = ap (λ o. option_and_then (λ declaration. option_map (λ location. record { name = f.name; declaration = declaration; location = location; count = 0 }) (spec.location_of (location_data f.location))) o)
-      (location-read f.declaration formed.0)
-      ∙ ap (option_map (λ location. record { name = f.name; declaration = f.declaration; location = location; count = 0 })) (location-read f.location formed.1);
+  described = ap (λ o. option_and_then (λ location. option_map (λ declaration. record { name = f.name; declaration = declaration; location = location; count = 0 }) (spec.location_of (location_data f.declaration))) o)
+      (location-read f.location formed.1)
+      ∙ ap (option_map (λ declaration. record { name = f.name; declaration = declaration; location = f.location; count = 0 })) (location-read f.declaration formed.0);
   fit = refl;
   with_counts = ap (spec.function_with (zero_function f)) (count-read f.count formed.2);
 }
@@ -116,12 +116,28 @@ paths-counted place (path ∷ paths) formed =
 abbrev zero_branch : BranchCoverage → BranchCoverage
 zero_branch branch = record { kind = branch.kind; location = branch.location; paths = zero_paths branch.paths }
 
+-- without their counts its paths are still settled
+zero-paths : (location : Location) (paths : List PathCoverage) → if_paths location paths ≡ paths → if_paths location (zero_paths paths) ≡ zero_paths paths
+zero-paths location [] e = refl
+zero-paths location (first ∷ []) e = refl
+zero-paths location (first ∷ second ∷ []) e = ap zero_paths e
+zero-paths location (first ∷ second ∷ third ∷ paths) e = refl
+
+zero-by : (is_if : Bool) (location : Location) (paths : List PathCoverage) → cond is_if (if_paths location paths) paths ≡ paths → cond is_if (if_paths location (zero_paths paths)) (zero_paths paths) ≡ zero_paths paths
+zero-by true location paths e = zero-paths location paths e
+zero-by false location paths e = refl
+
+zero-settled : (b : BranchCoverage) → IsSettled b → IsSettled (zero_branch b)
+zero-settled b e =
+    ap (λ paths. record { kind = b.kind; location = b.location; paths = paths }) (zero-by (bytes_eq b.kind (codes "if")) b.location b.paths (ap (λ branch. branch.paths) e))
+
 branch-returns : (b : BranchCoverage) → IsBranch b → Returns spec.branch_of spec.branch_fits spec.branch_counted branch_data path_counts_data zero_branch b
 branch-returns b formed = record {
-  described = ap (λ o. option_and_then (λ location. option_map (λ paths. record { kind = b.kind; location = location; paths = paths }) (spec.paths_of (locations b.paths))) o) (location-read b.location formed.0)
-      ∙ ap (option_map (λ paths. record { kind = b.kind; location = b.location; paths = paths })) (paths-read b.paths formed.1);
+  described = ap (λ o. option_and_then (λ paths. option_map (λ location. settled (record { kind = b.kind; location = location; paths = paths })) (spec.location_of (location_data b.location))) o) (paths-read b.paths formed.1)
+      ∙ ap (option_map (λ location. settled (record { kind = b.kind; location = location; paths = zero_paths b.paths }))) (location-read b.location formed.0)
+      ∙ ap Some (zero-settled b formed.3);
   fit = paths-fit b.paths;
-  with_counts = ap (spec.branch_with (zero_branch b)) (paths-counted 0 b.paths formed.1);
+  with_counts = ap (spec.branch_with (zero_branch b)) (paths-counted 0 b.paths formed.1) ∙ ap Ok formed.3;
 }
 
 -- ---- the things of a map and its counts

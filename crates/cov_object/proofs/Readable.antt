@@ -25,7 +25,7 @@ use Rattle.cov_object.specs.declared.location.Position.{Position}
 use Rattle.cov_object.specs.declared.location.Location.{Location}
 use Rattle.cov_object.specs.declared.file.FunctionCoverage.{FunctionCoverage}
 use Rattle.cov_object.specs.declared.file.PathCoverage.{PathCoverage}
-use Rattle.cov_object.specs.declared.file.BranchCoverage.{BranchCoverage}
+use Rattle.cov_object.specs.Branch.{BranchCoverage}
 use Rattle.cov_object.specs.declared.file.FileCoverage.{FileCoverage}
 use Rattle.cov_object.proofs.ReadText.{depth-outline, whole, IsReadable, read-text, weaker, readable-number, readable-string, readable-null, EachReadable, readable-array, AreSorted, AllReadable, AreSorted-put, AllReadable-put, readable-object, EntriesReadable, sorted-fold, readable-fold, readable-entries}
 

@@ -10,7 +10,7 @@ use Rattle.cov_object.specs.declared.location.Position.{Position}
 use Rattle.cov_object.specs.declared.location.Location.{Location}
 use Rattle.cov_object.specs.declared.file.StatementCoverage.{StatementCoverage}
 use Rattle.cov_object.specs.declared.file.FunctionCoverage.{FunctionCoverage}
-use Rattle.cov_object.specs.declared.file.BranchCoverage.{BranchCoverage}
+use Rattle.cov_object.specs.Branch.{BranchCoverage}
 use Rattle.cov_object.specs.declared.file.FileCoverage.{FileCoverage}
 
 -- the members in the order of their keys' bytes

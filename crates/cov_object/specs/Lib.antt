@@ -1,3 +1,4 @@
+pub mod Branch
 pub mod Files
 pub mod Json
 pub mod JsonText

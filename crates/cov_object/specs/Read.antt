@@ -15,7 +15,7 @@ use Rattle.cov_object.specs.declared.location.Location.{Location}
 use Rattle.cov_object.specs.declared.file.StatementCoverage.{StatementCoverage}
 use Rattle.cov_object.specs.declared.file.FunctionCoverage.{FunctionCoverage}
 use Rattle.cov_object.specs.declared.file.PathCoverage.{PathCoverage}
-use Rattle.cov_object.specs.declared.file.BranchCoverage.{BranchCoverage}
+use Rattle.cov_object.specs.Branch.{BranchCoverage, settled}
 use Rattle.cov_object.specs.declared.file.FileCoverage.{FileCoverage}
 
 -- ---- numbers and places
@@ -65,24 +65,42 @@ count_of value = whole_below (2 ^ 53) value
 abbrev pub statement_of : Data → Option StatementCoverage
 statement_of value = option_map (λ location. record { location = location; count = 0 }) (location_of value)
 
+-- a location that older makers left out: this one, if it is not told
+abbrev pub location_or : Option Location → Option Data → Option Location
+location_or untold (Some value) = location_of value
+location_or untold None = untold
+
+-- a function; its `decl` is its `loc`, if it is not told
 abbrev pub function_of : Data → Option FunctionCoverage
 function_of value =
     option_and_then (λ name.
-    option_and_then (λ declaration.
-    option_map (λ location. record { name = name; declaration = declaration; location = location; count = 0 })
-    (location_in (codes "loc") value)) (location_in (codes "decl") value)) (text_in (codes "name") value)
+    option_and_then (λ location.
+    option_map (λ declaration. record { name = name; declaration = declaration; location = location; count = 0 })
+    (location_or (Some location) (get (codes "decl") value))) (location_in (codes "loc") value)) (text_in (codes "name") value)
 
 abbrev pub paths_of : Items → Option (List PathCoverage)
 paths_of no_items = Some []
 paths_of (item value rest) =
     option_and_then (λ location. option_map (λ paths. record { location = location; count = 0 } ∷ paths) (paths_of rest)) (location_of value)
 
+-- the end of the last of these paths, or else this one
+abbrev pub last_end : Option Position → List PathCoverage → Option Position
+last_end end [] = end
+last_end end (path ∷ paths) = last_end path.location.end paths
+
+-- from the start of the first path to the end of the last one
+abbrev pub span : List PathCoverage → Option Location
+span [] = None
+span (path ∷ paths) = Some (record { start = path.location.start; end = last_end path.location.end paths })
+
+-- a branch; its `loc` goes over all of its locations, if it is not told
 abbrev pub branch_of : Data → Option BranchCoverage
 branch_of value =
-    option_and_then (λ location.
     option_and_then (λ kind.
-    option_map (λ paths. record { kind = kind; location = location; paths = paths })
-    (option_and_then paths_of (option_and_then as_array (get (codes "locations") value)))) (text_in (codes "type") value)) (location_in (codes "loc") value)
+    option_and_then (λ paths.
+    option_map (λ location. settled (record { kind = kind; location = location; paths = paths }))
+    (location_or (span paths) (get (codes "loc") value)))
+    (option_and_then paths_of (option_and_then as_array (get (codes "locations") value)))) (text_in (codes "type") value)
 
 -- ---- what `s`, `f` and `b` have: whether it is of the right shape, and the thing with its counts
 -- An error says which count is none: `None` the thing's own, `Some` that of one of its paths.
@@ -132,7 +150,7 @@ paths_counted place (path ∷ paths) no_items = Ok []
 paths_counted place (path ∷ paths) (item value rest) = path_with place path (count_of value) (paths_counted (place + 1) paths rest)
 
 abbrev pub branch_with : BranchCoverage → Result (List PathCoverage) ℕ → Result BranchCoverage (Option ℕ)
-branch_with branch (Ok paths) = Ok (record { kind = branch.kind; location = branch.location; paths = paths })
+branch_with branch (Ok paths) = Ok (settled (record { kind = branch.kind; location = branch.location; paths = paths }))
 branch_with branch (Err place) = Err (Some place)
 
 abbrev pub items_in : Option Items → Items

@@ -5,9 +5,10 @@ ghost use Rattle.cov_object.specs.declared.counted.Part.{Part};
 ghost use Rattle.cov_object.specs.private.Counted.{part_of};
 ghost use Rattle.cov_object.specs.Json as spec;
 
+use crate::branch::BranchCoverage;
 use crate::description::{push_branch, push_function};
 use crate::digits::push_digits;
-use crate::file::{BranchCoverage, FunctionCoverage, StatementCoverage};
+use crate::file::{FunctionCoverage, StatementCoverage};
 use crate::list::push_path_counts;
 use crate::place::push_location;
 use items::Memory;
@@ -59,7 +60,7 @@ impl Counted for BranchCoverage {
 
     fn push(&self, alloc: Global, out: &mut Vec<u8>, part: Part) -> Result<(), Memory> {
         match part {
-            Part::Counts => push_path_counts(out, self.paths.as_slice()),
+            Part::Counts => push_path_counts(out, self.paths()),
             Part::Description => push_branch(alloc, out, self),
         }
     }

@@ -1,12 +1,14 @@
-ghost use Rattle.std.specs.Prelude.{◌≡◌, Bool, Option, Result, ℕ, codes, option_map, option_and_then, IfOk};
+ghost use Rattle.std.specs.Prelude.{◌≡◌, Bool, Option, Some, Result, ℕ, codes, option_map, option_and_then, IfOk};
 ghost use Rattle.std.specs.Result.{result_map_both};
 ghost use Rattle.serde_json.specs.Data.{Data};
 ghost use Rattle.serde_json.specs.Find.{get, as_array};
 ghost use Rattle.serde_json.specs.View.{view, items_view};
 ghost use Rattle.cov_object.specs.Read as spec;
 
-use crate::file::{BranchCoverage, FunctionCoverage, PathCoverage, StatementCoverage};
+use crate::branch::BranchCoverage;
+use crate::file::{FunctionCoverage, PathCoverage, StatementCoverage};
 use crate::from_value::{count_of, location_in, location_of, text_in};
+use crate::location::{Location, Position};
 use crate::number::Count;
 use items::{Items, Memory, Text};
 use serde_json::Value;
@@ -87,11 +89,11 @@ impl Described for FunctionCoverage {
         let Some(name) = text_in("name", value) else {
             return Ok(None);
         };
-        let Some(declaration) = location_in("decl", value) else {
+        let Some(location) = location_in("loc", value) else {
             return Ok(None);
         };
-        match location_in("loc", value) {
-            Some(location) => Ok(Some(FunctionCoverage {
+        match declaration_in(value, location) {
+            Some(declaration) => Ok(Some(FunctionCoverage {
                 name: Text::from_str(alloc, name)?,
                 declaration,
                 location,
@@ -138,25 +140,24 @@ impl Described for BranchCoverage {
     ghost counted = { spec.branch_counted };
 
     fn from_value(alloc: Global, value: &Value) -> Result<Option<BranchCoverage>, Memory> {
-        let Some(location) = location_in("loc", value) else {
-            return Ok(None);
-        };
         let Some(kind) = text_in("type", value) else {
             return Ok(None);
         };
-        match paths_in(alloc, value)? {
-            Some(paths) => Ok(Some(BranchCoverage {
-                kind: Text::from_str(alloc, kind)?,
-                location,
-                paths: Items::from_vec(paths),
-            })),
+        let Some(paths) = paths_in(alloc, value)? else {
+            return Ok(None);
+        };
+        match branch_location_in(value, paths.as_slice()) {
+            Some(location) => {
+                let paths = Items::from_vec(paths);
+                Ok(Some(BranchCoverage::new(alloc, kind, location, paths)?))
+            }
             None => Ok(None),
         }
     }
 
     fn is_fit(&self, value: &Value) -> bool {
         match value.as_array() {
-            Some(values) => values.len() == self.paths.len(),
+            Some(values) => values.len() == self.paths().len(),
             None => false,
         }
     }
@@ -169,7 +170,7 @@ impl Described for BranchCoverage {
         let Some(values) = value.as_array() else {
             return Ok(branch_with(self, Ok(Vec::new(alloc))));
         };
-        let counted = paths_counted(alloc, self.paths.as_slice(), values)?;
+        let counted = paths_counted(alloc, self.paths(), values)?;
         Ok(branch_with(self, counted))
     }
 }
@@ -182,16 +183,54 @@ fn branch_with(
     ensures { result ≡ spec.branch_with branch (result_map_both (λ paths. paths.items) (λ place. place) counted) }
 {
     match counted {
-        Ok(paths) => {
-            let BranchCoverage { kind, location, .. } = branch;
-            Ok(BranchCoverage {
-                kind,
-                location,
-                paths: Items::from_vec(paths),
-            })
-        }
+        Ok(paths) => Ok(branch.with_paths(Items::from_vec(paths))),
         Err(place) => Err(Some(place)),
     }
+}
+
+// Where the name of a function stands that a value describes: where its body does, if that is all
+// that is told.
+fn declaration_in(value: &Value, location: Location) -> Option<Location>
+    ensures { result ≡ spec.location_or (Some location) (get (codes "decl") (view value.now)) }
+{
+    match value.get("decl") {
+        Some(value) => location_of(value),
+        None => Some(location),
+    }
+}
+
+// Where a branch with these paths stands that a value describes.
+fn branch_location_in(value: &Value, paths: &[PathCoverage]) -> Option<Location>
+    ensures { result ≡ spec.location_or (spec.span paths.now) (get (codes "loc") (view value.now)) }
+{
+    match value.get("loc") {
+        Some(value) => location_of(value),
+        None => span(paths),
+    }
+}
+
+// From the start of the first path to the end of the last one.
+fn span(paths: &[PathCoverage]) -> Option<Location>
+    ensures { result ≡ spec.span paths.now }
+{
+    match paths {
+        [] => None,
+        [first, rest @ ..] => Some(Location {
+            start: first.location.start,
+            end: last_end(first.location.end, rest),
+        }),
+    }
+}
+
+// The end of the last of these paths, or else this one.
+fn last_end(end: Option<Position>, paths: &[PathCoverage]) -> Option<Position>
+    ensures { result ≡ spec.last_end end paths.now }
+{
+    let mut last = end;
+    for path in paths {
+        last = path.location.end;
+    }
+    last
 }
 
 // The paths of a branch that a value describes.

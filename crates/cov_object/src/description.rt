@@ -2,7 +2,8 @@ ghost use Rattle.std.specs.Prelude.{◌≡◌, ◌++◌, OnOk};
 ghost use Rattle.serde_json.specs.Written.{compact_text};
 ghost use Rattle.cov_object.specs.Json as spec;
 
-use crate::file::{BranchCoverage, FunctionCoverage};
+use crate::branch::BranchCoverage;
+use crate::file::FunctionCoverage;
 use crate::list::push_path_locations;
 use crate::piece::push_string;
 use crate::place::push_location;
@@ -39,11 +40,11 @@ pub(crate) fn push_branch(
     ensures { OnOk result (out.new.items ≡ out.old.items ++ compact_text (spec.branch_data branch.now)) }
 {
     out.extend_from_slice(b"{\"loc\":")?;
-    push_location(out, branch.location)?;
+    push_location(out, branch.location())?;
     out.extend_from_slice(b",\"locations\":")?;
-    push_path_locations(out, branch.paths.as_slice())?;
+    push_path_locations(out, branch.paths())?;
     out.extend_from_slice(b",\"type\":")?;
-    push_string(alloc, out, branch.kind.as_str())?;
+    push_string(alloc, out, branch.kind())?;
     out.push(b'}')?;
     Ok(())
 }

@@ -1,8 +1,9 @@
+use crate::branch::BranchCoverage;
 use crate::location::Location;
 use crate::number::Count;
 use crate::numbered::Numbered;
 use crate::source_map_text::SourceMapText;
-use items::{Items, Text};
+use items::Text;
 
 /// A statement, and how often it ran.
 #[derive(Debug, Drop)]
@@ -33,17 +34,6 @@ pub struct PathCoverage {
     pub location: Location,
     /// How often it was taken.
     pub count: Count,
-}
-
-/// A branch, and how often each of its paths was taken.
-#[derive(Debug, Drop)]
-pub struct BranchCoverage {
-    /// What kind of branch it is, as `if` or `switch`.
-    pub kind: Text,
-    /// Where it stands.
-    pub location: Location,
-    /// Its paths, in the order in which they stand.
-    pub paths: Items<PathCoverage>,
 }
 
 /// The coverage of one file. Statements, functions and branches are each numbered by themselves.

@@ -4,9 +4,8 @@ ghost use Rattle.std.specs.Prelude.{IsUtf8, IfSome};
 ghost use Rattle.cov_object.specs.SourceMapText.{IsSourceMap};
 ghost use Rattle.cov_object.specs.private.Formed.{IsPlace, IsLocated, IsStatement, IsFunction, ArePaths, IsBranch, EachThing, IsFormed};
 
-use crate::file::{
-    BranchCoverage, FileCoverage, FunctionCoverage, PathCoverage, StatementCoverage,
-};
+use crate::branch::BranchCoverage;
+use crate::file::{FileCoverage, FunctionCoverage, PathCoverage, StatementCoverage};
 use crate::location::{Location, Position};
 use crate::source_map_text::SourceMapText;
 use items::Text;
@@ -43,9 +42,9 @@ impl Formed for BranchCoverage {
     ghost formed = { IsBranch };
 
     fn look(&self) {
-        let _kind = self.kind.as_str();
-        look_at_location(self.location);
-        look_at_paths(self.paths.as_slice());
+        let _kind = self.kind();
+        look_at_location(self.location());
+        look_at_paths(self.paths());
     }
 }
 

@@ -1,6 +1,7 @@
 //! The coverage of a program's files, and its JSON.
 #![tactic(auto)]
 
+mod branch;
 mod by_file;
 mod counted;
 mod described;
@@ -29,8 +30,9 @@ mod source_map_text;
 mod things;
 mod write;
 
+pub use branch::BranchCoverage;
 pub use fault::CoverageFault;
-pub use file::{BranchCoverage, FileCoverage, FunctionCoverage, PathCoverage, StatementCoverage};
+pub use file::{FileCoverage, FunctionCoverage, PathCoverage, StatementCoverage};
 pub use json_text::read_value;
 pub use location::{Location, Position};
 pub use map::CoverageMap;

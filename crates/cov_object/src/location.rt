@@ -1,5 +1,6 @@
 ghost use Rattle.std.specs.Prelude.{◌≡◌};
-ghost use Rattle.cov_object.specs.Location.{nowhere};
+ghost use Rattle.std.specs.Option.{option_eq};
+ghost use Rattle.cov_object.specs.Location.{nowhere, same_position, same_location};
 
 use crate::number::Line;
 
@@ -31,5 +32,23 @@ impl Location {
             start: None,
             end: None,
         }
+    }
+
+    /// Whether it is the same part as another.
+    pub fn is_same(self, other: Location) -> bool
+        ensures { result ≡ same_location self other }
+    {
+        is_same_place(self.start, other.start) && is_same_place(self.end, other.end)
+    }
+}
+
+// Whether two places are the same, or both are none.
+fn is_same_place(a: Option<Position>, b: Option<Position>) -> bool
+    ensures { result ≡ option_eq same_position a b }
+{
+    match (a, b) {
+        (None, None) => true,
+        (Some(a), Some(b)) => a.line.get() == b.line.get() && a.column == b.column,
+        (None, Some(_)) | (Some(_), None) => false,
     }
 }

@@ -5,9 +5,10 @@ ghost use Rattle.cov_object.specs.SourceMapText.{most_depth};
 ghost use Rattle.cov_object.specs.declared.fault.CoverageFault.TheVariants.{Memory as OutOfMemory};
 ghost use Rattle.cov_object.specs.Read as spec;
 
+use crate::branch::BranchCoverage;
 use crate::by_file::files_in;
 use crate::fault::{CoverageFault, bad_member};
-use crate::file::{BranchCoverage, FileCoverage, FunctionCoverage, StatementCoverage};
+use crate::file::{FileCoverage, FunctionCoverage, StatementCoverage};
 use crate::from_value::text_in;
 use crate::map::CoverageMap;
 use crate::numbered::Numbered;

@@ -10,12 +10,13 @@ use Rattle.cov_object.specs.declared.location.Location.{Location}
 use Rattle.cov_object.specs.declared.file.StatementCoverage.{StatementCoverage}
 use Rattle.cov_object.specs.declared.file.FunctionCoverage.{FunctionCoverage}
 use Rattle.cov_object.specs.declared.file.PathCoverage.{PathCoverage}
-use Rattle.cov_object.specs.declared.file.BranchCoverage.{BranchCoverage}
+use Rattle.cov_object.specs.Branch.{BranchCoverage, settled, settled_paths}
 use Rattle.cov_merge.specs.Same.{same_position, same_location, same_text}
 use Rattle.cov_merge.specs.Laws.{count_at}
 use Rattle.cov_remap.specs.declared.sent.Part.{Part}
 use Rattle.source_map.specs.declared.place.Parts.{Parts}
 use Rattle.cov_remap.specs.Sent.{traced, traced_in, send_statement, send_function, send_location, send_path, send_branch, Sending, sending_statements, sending_functions, sending_branches}
+use Rattle.cov_remap.proofs.Settled.{locations_of, counts_of, settled_locations, settled-locations, settled-counts}
 
 -- ---- what is the same is equal
 
@@ -162,12 +163,6 @@ functions_sendable = record {
 
 -- ---- branches
 
-abbrev locations_of : List PathCoverage → List Location
-locations_of paths = map (λ path. path.location) paths
-
-abbrev counts_of : List PathCoverage → List ℕ
-counts_of paths = map (λ path. path.count) paths
-
 abbrev same_path : PathCoverage → PathCoverage → Bool
 same_path p q = same_location p.location q.location
 
@@ -223,7 +218,7 @@ sent-counts parts number (path ∷ paths) n =
     kept-by (send_location parts number path.location) path (sent_paths parts number paths) (counts_of paths) (map (λ l. is_some (send_location parts number l)) (locations_of paths)) n (sent-counts parts number paths)
 
 abbrev branch_to : Parts → BranchCoverage → Option Part → Option (ℕ × BranchCoverage)
-branch_to parts e o = option_map (λ part. (part.source, record { kind = e.kind; location = part.location; paths = sent_paths parts part.source e.paths })) o
+branch_to parts e o = option_map (λ part. (part.source, settled (record { kind = e.kind; location = part.location; paths = sent_paths parts part.source e.paths }))) o
 
 branch-parts : (e k : BranchCoverage) → sending_branches.kind.same e k ≡ true → (e.kind ≡ k.kind) × (e.location ≡ k.location) × (locations_of e.paths ≡ locations_of k.paths)
 branch-parts e k s =
@@ -234,26 +229,39 @@ branch-parts e k s =
 branch-is : (parts : Parts) (e k : BranchCoverage) (o : Option Part) → traced parts k.location ≡ o → sending_branches.kind.same e k ≡ true → send_branch parts e ≡ branch_to parts e o
 branch-is parts e k o is s = ap (λ l. branch_to parts e (traced parts l)) (branch-parts e k s).1 ∙ ap (branch_to parts e) is
 
-same-sent : (parts : Parts) (number : ℕ) (ps qs others : List PathCoverage) → locations_of ps ≡ locations_of qs → pointwise same_path (sent_paths parts number ps) others ≡ pointwise same_path (sent_paths parts number qs) others
-same-sent parts number ps qs others e =
-    same-locations (sent_paths parts number ps) others
-    ∙ ap (λ ls. pointwise same_location ls (locations_of others)) (sent-locations parts number ps ∙ ap (filter_map (send_location parts number)) e ∙ sym (sent-locations parts number qs))
-    ∙ sym (same-locations (sent_paths parts number qs) others)
+-- the paths of a branch of this kind here, as they are sent
+abbrev settled_sent : Parts → List ℕ → Part → List PathCoverage → List PathCoverage
+settled_sent parts kind part paths = settled_paths kind part.location (sent_paths parts part.source paths)
+
+settled-sent : (parts : Parts) (kind : List ℕ) (part : Part) (paths : List PathCoverage) →
+    locations_of (settled_sent parts kind part paths) ≡ settled_locations kind part.location (filter_map (send_location parts part.source) (locations_of paths))
+settled-sent parts kind part paths =
+    settled-locations kind part.location (sent_paths parts part.source paths)
+    ∙ ap (settled_locations kind part.location) (sent-locations parts part.source paths)
+
+same-sent : (parts : Parts) (kind : List ℕ) (part : Part) (ps qs others : List PathCoverage) → locations_of ps ≡ locations_of qs →
+    pointwise same_path (settled_sent parts kind part ps) others ≡ pointwise same_path (settled_sent parts kind part qs) others
+same-sent parts kind part ps qs others e =
+    same-locations (settled_sent parts kind part ps) others
+    ∙ ap (λ ls. pointwise same_location ls (locations_of others))
+    (settled-sent parts kind part ps ∙ ap (λ ls. settled_locations kind part.location (filter_map (send_location parts part.source) ls)) e ∙ sym (settled-sent parts kind part qs))
+    ∙ sym (same-locations (settled_sent parts kind part qs) others)
 
 branch-by : (parts : Parts) (k : BranchCoverage) (o : Option Part) → traced parts k.location ≡ o → Follows sending_branches (send_branch parts) k
 branch-by parts k None is = inl (λ e s. branch-is parts e k None is s)
 branch-by parts k (Some part) is = inr (record {
   number = part.source;
-  like = record { kind = k.kind; location = part.location; paths = sent_paths parts part.source k.paths };
+  like = settled (record { kind = k.kind; location = part.location; paths = sent_paths parts part.source k.paths });
   at = kept_at (map (λ l. is_some (send_location parts part.source l)) (locations_of k.paths));
   each = λ e s. record {
-    entry = record { kind = e.kind; location = part.location; paths = sent_paths parts part.source e.paths };
+    entry = settled (record { kind = e.kind; location = part.location; paths = sent_paths parts part.source e.paths });
     is = branch-is parts e k (Some part) is s;
     same = λ key.
-        ap (λ text. same_text text key.kind && (same_location part.location key.location && pointwise same_path (sent_paths parts part.source e.paths) key.paths)) (branch-parts e k s).0
-        ∙ ap (λ b. same_text k.kind key.kind && (same_location part.location key.location && b)) (same-sent parts part.source e.paths k.paths key.paths (branch-parts e k s).2);
+        ap (λ text. same_text text key.kind && (same_location part.location key.location && pointwise same_path (settled_sent parts text part e.paths) key.paths)) (branch-parts e k s).0
+        ∙ ap (λ b. same_text k.kind key.kind && (same_location part.location key.location && b)) (same-sent parts k.kind part e.paths k.paths key.paths (branch-parts e k s).2);
     counts = λ n.
-        sent-counts parts part.source e.paths n
+        ap (count_at n) (settled-counts e.kind part.location (sent_paths parts part.source e.paths))
+        ∙ sent-counts parts part.source e.paths n
         ∙ ap (λ ls. count_at (kept_at (map (λ l. is_some (send_location parts part.source l)) ls) n) (counts_of e.paths)) (branch-parts e k s).2;
   };
 })

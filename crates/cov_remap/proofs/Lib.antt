@@ -1,4 +1,5 @@
 pub mod Totals
+pub mod Settled
 pub mod Spread
 pub mod Merged
 pub mod Whole

@@ -4,7 +4,7 @@ use Rattle.std.specs.Option.{option_map}
 use Rattle.std.specs.List.{filter, filter_map, cons_option}
 use Rattle.cov_object.specs.declared.file.StatementCoverage.{StatementCoverage}
 use Rattle.cov_object.specs.declared.file.FunctionCoverage.{FunctionCoverage}
-use Rattle.cov_object.specs.declared.file.BranchCoverage.{BranchCoverage}
+use Rattle.cov_object.specs.Branch.{BranchCoverage}
 use Rattle.cov_object.specs.declared.file.FileCoverage.{FileCoverage}
 use Rattle.cov_merge.specs.Kind.{Kind}
 use Rattle.cov_merge.specs.Same.{same_text}

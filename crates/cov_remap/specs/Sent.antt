@@ -5,7 +5,7 @@ use Rattle.cov_object.specs.declared.location.Location.{Location}
 use Rattle.cov_object.specs.declared.file.StatementCoverage.{StatementCoverage}
 use Rattle.cov_object.specs.declared.file.FunctionCoverage.{FunctionCoverage}
 use Rattle.cov_object.specs.declared.file.PathCoverage.{PathCoverage}
-use Rattle.cov_object.specs.declared.file.BranchCoverage.{BranchCoverage}
+use Rattle.cov_object.specs.Branch.{BranchCoverage, settled}
 use Rattle.cov_object.specs.declared.file.FileCoverage.{FileCoverage}
 use Rattle.cov_merge.specs.Kind.{Kind}
 use Rattle.cov_merge.specs.Kinds.{statements, functions, branches}
@@ -66,9 +66,10 @@ send_location map number location =
 abbrev pub send_path : Parts → ℕ → PathCoverage → Option PathCoverage
 send_path map number path = option_map (λ location. record { location = location; count = path.count }) (send_location map number path.location)
 
+-- where an `else` and its `if` are sent to one place, the `else` is one that is missing
 abbrev pub send_branch : Parts → BranchCoverage → Option (ℕ × BranchCoverage)
 send_branch map branch =
-    option_map (λ part. (part.source, record { kind = branch.kind; location = part.location; paths = filter_map (send_path map part.source) branch.paths }))
+    option_map (λ part. (part.source, settled (record { kind = branch.kind; location = part.location; paths = filter_map (send_path map part.source) branch.paths })))
     (traced map branch.location)
 
 -- ---- the three kinds of entries

@@ -164,15 +164,10 @@ pub(crate) fn send_branch(
 ) -> Result<Option<(u32, BranchCoverage)>, Memory>
     ensures { IfOk result (λ sent. sent ≡ spec.send_branch map.now branch.now) }
 {
-    let Some(part) = traced(map, branch.location) else {
+    let Some(part) = traced(map, branch.location()) else {
         return Ok(None);
     };
-    Ok(Some((
-        part.source,
-        BranchCoverage {
-            kind: Text::from_str(alloc, branch.kind.as_str())?,
-            location: part.location,
-            paths: send_paths(alloc, map, part.source, branch.paths.as_slice())?,
-        },
-    )))
+    let paths = send_paths(alloc, map, part.source, branch.paths())?;
+    let sent = BranchCoverage::new(alloc, branch.kind(), part.location, paths)?;
+    Ok(Some((part.source, sent)))
 }

@@ -208,8 +208,8 @@ fn push_branch(
 ) -> Result<(), Memory>
     ensures { OnOk result (out.new.items ≡ out.old.items ++ spec.branch_lines branch.now) }
 {
-    let start = start_line(branch.1.location);
-    let paths = branch.1.paths.as_slice();
+    let start = start_line(branch.1.location());
+    let paths = branch.1.paths();
     for (number, path) in paths.iter().enumerate() {
         push_path_count(alloc, out, start, branch.0, number, path)?;
     }

@@ -1,6 +1,6 @@
 -- The totals of files.
 use Rattle.std.specs.Prelude.{ℕ, List, map, fold}
-use Rattle.cov_object.specs.declared.file.BranchCoverage.{BranchCoverage}
+use Rattle.cov_object.specs.Branch.{BranchCoverage}
 use Rattle.cov_object.specs.declared.file.FileCoverage.{FileCoverage}
 use Rattle.cov_summary.specs.declared.totals.Totals.{Totals}
 use Rattle.cov_summary.specs.declared.sums.Sums.{Sums}

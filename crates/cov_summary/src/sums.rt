@@ -109,7 +109,7 @@ fn with_branches(totals: Totals, branches: &[(u64, BranchCoverage)]) -> Totals
 {
     let mut so_far = totals;
     for (_, branch) in branches {
-        so_far = with_paths(so_far, branch.paths.as_slice());
+        so_far = with_paths(so_far, branch.paths());
     }
     so_far
 }

@@ -11,7 +11,7 @@ use Rattle.cov_object.specs.declared.location.Position.{Position}
 use Rattle.cov_object.specs.declared.location.Location.{Location}
 use Rattle.cov_object.specs.declared.file.StatementCoverage.{StatementCoverage}
 use Rattle.cov_object.specs.declared.file.FunctionCoverage.{FunctionCoverage}
-use Rattle.cov_object.specs.declared.file.BranchCoverage.{BranchCoverage}
+use Rattle.cov_object.specs.Branch.{BranchCoverage}
 use Rattle.cov_object.specs.declared.file.FileCoverage.{FileCoverage}
 use Rattle.cov_v8.specs.declared.fault.V8Fault.{V8Fault}
 use Rattle.cov_v8.specs.declared.fault.V8Fault.TheVariants as fault

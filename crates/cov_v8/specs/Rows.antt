@@ -4,7 +4,7 @@ use Rattle.serde_json.specs.Data.{Data, null, boolean, number, unsigned, string,
 use Rattle.serde_json.specs.View.{items_of}
 use Rattle.cov_object.specs.declared.location.Location.{Location}
 use Rattle.cov_object.specs.declared.file.StatementCoverage.{StatementCoverage}
-use Rattle.cov_object.specs.declared.file.BranchCoverage.{BranchCoverage}
+use Rattle.cov_object.specs.Branch.{BranchCoverage}
 use Rattle.cov_v8.specs.declared.fault.V8Fault.{V8Fault}
 use Rattle.cov_v8.specs.declared.fault.V8Fault.TheVariants as fault
 use Rattle.cov_v8.specs.declared.v8.V8Range.{V8Range}

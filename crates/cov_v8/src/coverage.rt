@@ -121,17 +121,14 @@ fn branch(alloc: Global, table: &[Pos], range: &V8Range) -> Result<BranchCoverag
     requires within { IsInside (length table.now) range.now }
     ensures { IfOk result (λ branch. (cs : List ℕ) → table.now ≡ table_of cs → branch ≡ spec.branch cs range.now) }
 {
-    let location = part(table, range.start as usize, range.end as usize);
+    let (start, end) = (range.start as usize, range.end as usize);
     let mut paths = Vec::new(alloc);
     paths.push(PathCoverage {
-        location,
+        location: part(table, start, end),
         count: Count::new(range.count),
     })?;
-    Ok(BranchCoverage {
-        kind: Text::from_str(alloc, "branch")?,
-        location,
-        paths: Items::from_vec(paths),
-    })
+    let paths = Items::from_vec(paths);
+    BranchCoverage::new(alloc, "branch", part(table, start, end), paths)
 }
 
 // Puts the branches that some ranges are at the end.

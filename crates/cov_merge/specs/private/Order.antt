@@ -8,7 +8,7 @@ use Rattle.cov_object.specs.declared.location.Location.{Location}
 use Rattle.cov_object.specs.declared.file.StatementCoverage.{StatementCoverage}
 use Rattle.cov_object.specs.declared.file.FunctionCoverage.{FunctionCoverage}
 use Rattle.cov_object.specs.declared.file.PathCoverage.{PathCoverage}
-use Rattle.cov_object.specs.declared.file.BranchCoverage.{BranchCoverage}
+use Rattle.cov_object.specs.Branch.{BranchCoverage}
 
 abbrev pub position_cmp : Position → Position → Ordering
 position_cmp a b = ordering_then (nat_cmp a.line b.line) (option_cmp nat_cmp a.column b.column)

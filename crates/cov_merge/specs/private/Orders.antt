@@ -12,7 +12,7 @@ use Rattle.cov_object.specs.declared.location.Location.{Location}
 use Rattle.cov_object.specs.declared.file.StatementCoverage.{StatementCoverage}
 use Rattle.cov_object.specs.declared.file.FunctionCoverage.{FunctionCoverage}
 use Rattle.cov_object.specs.declared.file.PathCoverage.{PathCoverage}
-use Rattle.cov_object.specs.declared.file.BranchCoverage.{BranchCoverage}
+use Rattle.cov_object.specs.Branch.{BranchCoverage}
 use Rattle.cov_merge.specs.Same.{same_position, same_location, same_text}
 use Rattle.cov_merge.specs.Kinds.{statements, functions, branches}
 use Rattle.cov_merge.specs.private.Order.{position_cmp, location_cmp, path_cmp, statement_cmp, function_cmp, branch_cmp}

@@ -7,7 +7,7 @@ use Rattle.cov_object.specs.declared.location.Location.{Location}
 use Rattle.cov_object.specs.declared.file.StatementCoverage.{StatementCoverage}
 use Rattle.cov_object.specs.declared.file.FunctionCoverage.{FunctionCoverage}
 use Rattle.cov_object.specs.declared.file.PathCoverage.{PathCoverage}
-use Rattle.cov_object.specs.declared.file.BranchCoverage.{BranchCoverage}
+use Rattle.cov_object.specs.Branch.{BranchCoverage, IsSettled}
 use Rattle.cov_object.specs.declared.file.FileCoverage.{FileCoverage}
 
 -- a place's numbers are in range
@@ -29,7 +29,7 @@ ArePaths [] = Unit {0}
 ArePaths (path ∷ paths) = (IsLocated path.location × (path.count < 2 ^ 53)) × ArePaths paths
 
 abbrev pub IsBranch : BranchCoverage → Type 0
-IsBranch branch = IsLocated branch.location × ArePaths branch.paths × IsUtf8 branch.kind
+IsBranch branch = IsLocated branch.location × ArePaths branch.paths × IsUtf8 branch.kind × IsSettled branch
 
 -- each thing is so
 abbrev pub EachThing : {T : Type 0} → (T → Type 0) → List (ℕ × T) → Type 0

@@ -9,6 +9,6 @@ returns-in-Some c =
     let paths = c.args.self.now.paths in
     let values = c.in-Some.values.now.items in
     let many : c.len.result ≡ length values = search rules in
-    ap₂ (λ m n. m == n) many c.len-in-Some.ensures
+    ap₂ (λ m n. m == n) many (ap length c.paths.ensures.paths)
     ∙ sym (items_fit-lengths paths values)
     ∙ ap (spec.list_fits paths) (sym (ap (option_map (λ v. items_view v.now.items)) c.in-Some.is) ∙ c.as_array.ensures)
