@@ -19,7 +19,9 @@ use serde_json::Value;
 use std::alloc::Global;
 
 /// The coverage map that bytes tell as JSON, Istanbul's `coverage-final.json`: an object from each
-/// file's path to its coverage. Members that aren't known are passed over.
+/// file's path to its coverage. Members that aren't known are passed over. Older makers left out a
+/// function's `decl`, which is then its `loc`, and a branch's `loc`, which then goes from the start of
+/// its first location to the end of its last.
 ///
 /// `TooLong` comes exactly over 16 MiB, before all else. Of the other faults the first one comes:
 /// files go by the byte order of their paths, and in each file `path`, `statementMap` and `s`, `fnMap`
