@@ -1,5 +1,5 @@
 -- What is left of a list, one item at a time.
-use Rattle.std.proofs.Common.{◌≡◌, ◌∙◌, ℕ, Bool, suc, ◌+◌, ◌<◌, length, drop, get_or, add-one, List, [], ◌∷◌, ◌++◌, Option, refl, sym, ap, append_assoc, append-nil}
+use Rattle.std.proofs.Common.{◌≡◌, ◌∙◌, ℕ, Bool, suc, ◌+◌, ◌<◌, length, drop, get_or, add-one, List, [], ◌∷◌, ◌++◌, Option, refl, sym, ap, subst, append_assoc, append-nil, arith}
 use Rattle.std.proofs.Math.Seq.{drop-cons}
 use Rattle.js_tree.specs.declared.place.Loc.{Loc}
 use Rattle.js_tree.specs.Plain as P
@@ -18,17 +18,20 @@ use Rattle.js_layout.specs.Tokens as tokens
 use Rattle.js_text.specs.declared.punctuator.Punctuator.TheVariants as mark
 use Rattle.js_layout.specs.Neat.{placed, neat_expr, neat_exprs, neat_property, neat_properties, neat_params, neat_declarators, neat_parts}
 use Rattle.js_print.specs.Parts.{neat_param, neat_declarator, part_tokens, test_tokens}
-use Rattle.js_sheet.specs.Sheets.{Sheet, IfWhole, put, put_all}
-use Rattle.js_sheet.proofs.Puts.{put_append, whole_before}
+use Rattle.js_sheet.specs.Stands.{At, Puts}
+use Rattle.js_print.proofs.Steps.{Leaves, one, part}
 
--- tokens were put, and the rest leads where all of them do
-pub put_step : (to new final : Sheet) (all xs rest : List Written) → all ≡ xs ++ rest → IfWhole new (new ≡ put_all to xs) → IfWhole to (put_all to all ≡ final) → IfWhole new (put_all new rest ≡ final)
-put_step to new final all xs rest cut is end =
-    λ whole. ap (λ s. put_all s rest) (is whole) ∙ sym (put_append to xs rest) ∙ sym (ap (put_all to) cut) ∙ end (whole_before to new xs (is whole) whole)
+pub no_item : {T : Type 0} (xs : List T) → length xs ≡ 0 → xs ≡ []
+no_item [] h = refl
+no_item (x ∷ xs) h = absurd (omega (arith, h))
+
+-- tokens were put, of those that were left
+pub put_step : {start now new : At} {all : List Written} (left xs rest : List Written) → left ≡ xs ++ rest → Puts now new xs → Leaves start now left all → Leaves start new rest all
+put_step {start} {now} {new} {all} left xs rest cut puts leaves = record { then = λ end then. leaves.then end (subst (Puts now end) (sym cut) (part xs puts then)) }
 
 -- the same after a comma
-pub put_more : (to between new final : Sheet) (all xs rest : List Written) (comma : Written) → all ≡ comma ∷ (xs ++ rest) → IfWhole between (between ≡ put to comma) → IfWhole new (new ≡ put_all between xs) → IfWhole to (put_all to all ≡ final) → IfWhole new (put_all new rest ≡ final)
-put_more to between new final all xs rest comma cut first is = put_step to new final all (comma ∷ xs) rest cut (λ whole. is whole ∙ ap (λ s. put_all s xs) (first (whole_before between new xs (is whole) whole)))
+pub put_more : {start now between new : At} {all : List Written} (left xs rest : List Written) (comma : Written) → left ≡ comma ∷ (xs ++ rest) → Puts now between (comma ∷ []) → Puts between new xs → Leaves start now left all → Leaves start new rest all
+put_more {start} {now} {between} {new} {all} left xs rest comma cut first puts leaves = put_step left (comma ∷ xs) rest cut (one first puts) leaves
 
 pub next_expr : (xs : List expr.Expr) (i : ℕ) (x : expr.Expr) → i < length xs → x ≡ get_or xs i x → plain_exprs (drop i xs) ≡ P.more_expr (plain_expr x) (plain_exprs (drop (i + 1) xs))
 next_expr xs i x low is =
@@ -77,16 +80,24 @@ pub declarators_cut : (l : Option Loc) (head : Bool) (d : P.Declarator) (ds : P.
     tokens.more_declarators_tokens l (neat_declarators head (P.more_declarator d ds)) ≡ tokens.mark l mark.Comma ∷ (tokens.declarator_tokens (neat_declarator head d) ++ tokens.more_declarators_tokens l (neat_declarators head ds))
 declarators_cut l head (P.MakeDeclarator m x e) ds = refl
 
+-- the first of all, and the rest
+pub params_first : (l : Option Loc) (p : P.Param) (ps : P.Params) → tokens.params_tokens l (neat_params (P.more_param p ps)) ≡ tokens.param_tokens (neat_param p) ++ tokens.more_params_tokens l (neat_params ps)
+params_first l (P.MakeParam m x e) ps = refl
+
+pub declarators_first : (l : Option Loc) (head : Bool) (d : P.Declarator) (ds : P.Declarators) →
+    tokens.declarators_tokens l (neat_declarators head (P.more_declarator d ds)) ≡ tokens.declarator_tokens (neat_declarator head d) ++ tokens.more_declarators_tokens l (neat_declarators head ds)
+declarators_first l head (P.MakeDeclarator m x e) ds = refl
+
 -- the first part of a template that is left, and the rest
-pub put_part : (l : Option Loc) (p : P.TemplatePart) (ps : P.TemplateParts) (to new final : Sheet) → IfWhole new (new ≡ put_all to (part_tokens T.TemplateMiddle l p)) → IfWhole new (new ≡ put_all to (part_tokens T.TemplateTail l p)) →
-    IfWhole to (put_all to (tokens.parts_tokens l (neat_parts (P.more_template_part p ps))) ≡ final) → IfWhole new (put_all new (tokens.parts_tokens l (neat_parts ps)) ≡ final)
-put_part l (P.MakeTemplatePart e s) P.no_template_part to new final middle tail end =
-    put_step to new final _ (part_tokens T.TemplateTail l (P.MakeTemplatePart e s)) [] (sym (append-nil (part_tokens T.TemplateTail l (P.MakeTemplatePart e s)))) tail end
-put_part l (P.MakeTemplatePart e s) (P.more_template_part (P.MakeTemplatePart f t) ps) to new final middle tail end =
+pub put_part : {start now new : At} {all : List Written} (l : Option Loc) (p : P.TemplatePart) (ps : P.TemplateParts) → Puts now new (part_tokens T.TemplateMiddle l p) → Puts now new (part_tokens T.TemplateTail l p) →
+    Leaves start now (tokens.parts_tokens l (neat_parts (P.more_template_part p ps))) all → Leaves start new (tokens.parts_tokens l (neat_parts ps)) all
+put_part {start} {now} {new} {all} l (P.MakeTemplatePart e s) P.no_template_part middle tail leaves =
+    put_step _ (part_tokens T.TemplateTail l (P.MakeTemplatePart e s)) [] (sym (append-nil (part_tokens T.TemplateTail l (P.MakeTemplatePart e s)))) tail leaves
+put_part {start} {now} {new} {all} l (P.MakeTemplatePart e s) (P.more_template_part (P.MakeTemplatePart f t) ps) middle tail leaves =
     let rest = tokens.parts_tokens l (neat_parts (P.more_template_part (P.MakeTemplatePart f t) ps)) in
-    put_step to new final _ (part_tokens T.TemplateMiddle l (P.MakeTemplatePart e s)) rest (sym (append_assoc (tokens.expr_tokens (neat_expr e)) (tokens.token l (T.TemplateMiddle s.spelling) ∷ []) rest)) middle end
+    put_step _ (part_tokens T.TemplateMiddle l (P.MakeTemplatePart e s)) rest (sym (append_assoc (tokens.expr_tokens (neat_expr e)) (tokens.token l (T.TemplateMiddle s.spelling) ∷ []) rest)) middle leaves
 
 -- the first text of a template, whether it is the last or not
-pub put_first : (l : Option Loc) (w : List ℕ) (ps : P.TemplateParts) (to new : Sheet) → IfWhole new (new ≡ put to (tokens.token l (T.NoSubstitutionTemplate w))) → IfWhole new (new ≡ put to (tokens.token l (T.TemplateHead w))) → IfWhole new (new ≡ put to (tokens.token l (tokens.first_part ps w)))
-put_first l w P.no_template_part to new whole head = whole
-put_first l w (P.more_template_part p ps) to new whole head = head
+pub put_first : {now new : At} (l : Option Loc) (w : List ℕ) (ps : P.TemplateParts) → Puts now new (tokens.token l (T.NoSubstitutionTemplate w) ∷ []) → Puts now new (tokens.token l (T.TemplateHead w) ∷ []) → Puts now new (tokens.token l (tokens.first_part ps w) ∷ [])
+put_first {now} {new} l w P.no_template_part whole head = whole
+put_first {now} {new} l w (P.more_template_part p ps) whole head = head

@@ -5,4 +5,5 @@ mod printed;
 mod walk;
 
 pub use js_layout::Mark;
-pub use printed::{Printed, print};
+pub use js_sheet::PrintFault;
+pub use printed::{Printed, print, print_to};

@@ -1,6 +1,8 @@
 pub mod Forms
 pub mod Lasts
 pub mod Puts
+pub mod Kept
+pub mod Standing
 pub mod Openings
 pub mod Offsets
 pub mod Meets

@@ -1,5 +1,5 @@
 -- Tokens that are put one after another.
-use Rattle.std.proofs.Common.{◌≡◌, ◌∙◌, true, false, List, [], ◌∷◌, ◌++◌, Option, Some, None, refl, sym, ap}
+use Rattle.std.proofs.Common.{◌≡◌, ◌∙◌, true, List, [], ◌∷◌, ◌++◌, Option, Some, None, refl, sym, ap}
 use Rattle.js_tree.specs.declared.place.Loc.{Loc}
 use Rattle.js_tree.specs.declared.place.Pos.{Pos}
 use Rattle.js_tree.specs.Plain as tree
@@ -8,7 +8,7 @@ use Rattle.js_spelling.specs.Written.{Written, Origin, Begins}
 use Rattle.js_layout.specs.Tokens.{begun, expr_tokens, pattern_tokens, key_tokens}
 use Rattle.js_layout.specs.Neat.{paired}
 use Rattle.js_sheet.specs.Pairs.{own_pair}
-use Rattle.js_sheet.specs.Sheets.{Sheet, IfWhole, put, put_all, begin}
+use Rattle.js_sheet.specs.Sheets.{Sheet, put, put_all, begin}
 
 pub put_append : (s : Sheet) (xs ys : List Written) → put_all s (xs ++ ys) ≡ put_all (put_all s xs) ys
 put_append s [] ys = refl
@@ -22,22 +22,6 @@ put_cons s x xs = refl
 
 pub put_none : (s : Sheet) → put_all s [] ≡ s
 put_none s = refl
-
--- ---- memory isn't wanting before, where it isn't after
-
-put_wanting : (s : Sheet) (x : Written) → (put s x).wanting ≡ s.wanting
-unfolding put
-put_wanting s x = refl
-
-put_all_wanting : (s : Sheet) (xs : List Written) → (put_all s xs).wanting ≡ s.wanting
-put_all_wanting s [] = refl
-put_all_wanting s (x ∷ xs) = put_all_wanting (put s x) xs ∙ put_wanting s x
-
-pub whole_before : (s t : Sheet) (xs : List Written) → t ≡ put_all s xs → t.wanting ≡ false → s.wanting ≡ false
-whole_before s t xs is whole = sym (put_all_wanting s xs) ∙ sym (ap (λ (u : Sheet). u.wanting) is) ∙ whole
-
-pub put_after : (s t u : Sheet) (x y : Written) → IfWhole t (t ≡ put s x) → IfWhole u (u ≡ put t y) → IfWhole u (u ≡ put (put s x) y)
-put_after s t u x y first then = λ whole. then whole ∙ ap (λ s. put s y) (first (whole_before t u (y ∷ []) (then whole) whole))
 
 -- ---- what begins with the next token
 

@@ -1,6 +1,6 @@
 -- What is written so far, as the tokens that follow need it: tokens put one after another make the text and the marks of the layout.
 use Rattle.std.specs.Str.{chars}
-use Rattle.std.specs.Prelude.{◌≡◌, ℕ, Bool, true, false, List, [], ◌∷◌, ◌++◌, length, Option, Some, None, if◌then◌else◌}
+use Rattle.std.specs.Prelude.{ℕ, Bool, true, false, List, [], ◌∷◌, ◌++◌, length, Option, Some, None, if◌then◌else◌}
 use Rattle.js_tree.specs.declared.place.Pos.{Pos}
 use Rattle.js_tree.specs.declared.place.Loc.{Loc}
 use Rattle.js_text.specs.Token.{Kind, Numeral, BigInt, RegularExpression, spelling}
@@ -21,12 +21,6 @@ pub record Sheet : Type 0 where
   pub inserted : Bool
   -- what begins with the next token
   pub due : Option Pos
-  -- memory was wanted for a token, so that this isn't all that was put
-  pub wanting : Bool
-
--- what holds of a sheet for which memory was never wanting
-abbrev pub IfWhole : Sheet → Type 0 → Type 0
-IfWhole s P = s.wanting ≡ false → P
 
 abbrev pub gap : Left → Option ℕ → List ℕ
 gap left.Nothing b = []
@@ -70,7 +64,10 @@ begins o = None
 abbrev pub due_with : Origin → Sheet → Sheet
 due_with o s = record s { due = due_after (begins o) s.due }
 
--- the steps of the code: the gap before a token, and its mark
+-- the steps of the code: text that is written, the gap before a token, and its mark
+abbrev pub with_text : List ℕ → Sheet → Sheet
+with_text bytes s = record s { text = s.text ++ bytes }
+
 abbrev pub with_gap : Option ℕ → Sheet → Sheet
 with_gap b s = record s { text = s.text ++ gap s.left b }
 
@@ -110,7 +107,7 @@ begin l s = record s { due = due_after (start_of l) s.due }
 
 -- nothing is written yet
 abbrev pub blank : Sheet
-blank = record { text = []; left = left.Nothing; marks = []; inserted = false; due = None; wanting = false }
+blank = record { text = []; left = left.Nothing; marks = []; inserted = false; due = None }
 
 -- the text with the end of its last line
 abbrev pub end_of : Left → List ℕ

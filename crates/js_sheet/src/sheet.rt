@@ -1,62 +1,73 @@
-ghost use Rattle.std.specs.Prelude.{◌≡◌, is_some, [], ◌++◌, false, OnOk, IfOk, if◌then◌else◌, codes};
+ghost use Rattle.std.specs.Prelude.{◌≡◌, ℕ, true, false, is_some, [], ◌∷◌, None, Option, OnOk, IfOk, List};
 ghost use Rattle.std.specs.String.{string_bytes};
-ghost use Rattle.std.specs.Str.{chars};
+ghost use Rattle.cov_base.specs.Sink.{after_more, TakesPrefix};
 ghost use Rattle.js_text.specs.Token as token;
-ghost use Rattle.js_text.specs.Character.{continues_identifier};
-ghost use Rattle.js_spelling.specs.Written.{Written, letters, is_number, is_regular_expression};
+ghost use Rattle.js_spelling.specs.Written.{Written};
 ghost use Rattle.js_layout.specs.Tokens as tokens;
 ghost use Rattle.js_sheet.specs.Sheets as spec;
-ghost use Rattle.js_sheet.specs.Sheets.{IfWhole};
+ghost use Rattle.js_sheet.specs.Fault.{HasPrintCause};
 
+use crate::fault::PrintFault;
 use crate::left::{Left, Sort, first_of, left_after, parts};
+use crate::way::Way;
+use cov_base::{Pieces, Sink};
 use items::Memory;
 use js_text::Punctuator;
 use js_tree::{Loc, Pos};
 use std::alloc::{AllocError, Global};
-use std::marker::Model;
 
 /// The text of the tokens so far, and their marks: how many bytes stand before each, and what
-/// begins there in the source. Once memory is wanting nothing more is written, and it doesn't
-/// finish.
+/// begins there in the source. It is held whole, or goes to a sink in pieces, and then its marks
+/// aren't kept. After a fault nothing more is written, and it doesn't finish.
+///
+/// The sink is lent to each step; a sheet that is held whole writes nothing to it.
 #[derive(Drop)]
 pub struct Sheet {
     alloc: Global,
-    text: String,
+    way: Way,
     left: Left,
-    marks: Vec<(usize, Option<Pos>)>,
     inserted: bool,
     due: Option<Pos>,
-    wanting: bool,
-}
-
-impl Model for Sheet {
-    ghost use Rattle.js_sheet.specs.Sheets.{Sheet};
-    ghost use Rattle.js_sheet.specs.Held.{sheet_of};
-
-    ghost Value = { Sheet };
-
-    ghost view = { sheet_of };
+    fault: Option<PrintFault>,
 }
 
 impl Sheet {
+    ghost use Rattle.js_sheet.specs.Stands.{at, Start, Stands, Turns, Puts};
+    ghost use Rattle.js_sheet.specs.Ways.{is_whole};
+
+    /// Nothing is written yet. The text will be held whole.
+    pub fn whole(alloc: Global) -> Sheet
+        ensures { (taken : Option (List ℕ)) (faults : ℕ) → Stands (record { whole = true; taken = taken; faults = faults }) (at result taken faults) spec.blank }
+    {
+        Sheet::blank(alloc, Way::Whole(String::new(alloc), Vec::new(alloc)))
+    }
+
+    /// Nothing is written yet. The text will go to a sink in pieces. Room for a piece is all the
+    /// memory that is taken.
+    pub fn in_pieces(alloc: Global) -> Result<Sheet, Memory>
+        ensures { IfOk result (λ sheet. (taken : Option (List ℕ)) (faults : ℕ) → Stands (record { whole = false; taken = taken; faults = faults }) (at sheet taken faults) spec.blank) }
+    {
+        let pieces = Pieces::new(alloc)?;
+        Ok(Sheet::blank(alloc, Way::InPieces(pieces)))
+    }
+
     /// Nothing is written yet.
-    pub fn new(alloc: Global) -> Sheet
-        ensures { result ≡ spec.blank }
+    fn blank(alloc: Global, way: Way) -> Sheet
+        ensures { result ≡ record { alloc = alloc; way = way; left = Left.Nothing; inserted = false; due = None; fault = None } }
     {
         Sheet {
             alloc,
-            text: String::new(alloc),
+            way,
             left: Left::Nothing,
-            marks: Vec::new(alloc),
             inserted: false,
             due: None,
-            wanting: false,
+            fault: None,
         }
     }
 
     /// What stands at this place of the source begins with the next token.
     pub fn begin(&mut self, place: Option<Loc>)
-        ensures { self.new ≡ spec.begin place self.old }
+        ensures { (taken : Option (List ℕ)) (faults : ℕ) → Turns (at self.old taken faults) (at self.new taken faults) (spec.begin place) }
     {
         if self.due.is_none() {
             if let Some(loc) = place {
@@ -65,144 +76,171 @@ impl Sheet {
         }
     }
 
-    /// Writes the line's end or the space that is due before a token that begins with a character.
-    fn gap(&mut self, first: Option<char>) -> Result<(), Memory>
-        ensures { OnOk result (self.new ≡ spec.with_gap first self.old) }
+    /// Writes text, unless there was a fault.
+    fn push<S: Sink>(&mut self, sink: &mut S, text: &str)
+        ensures way { is_whole self.new.way ≡ is_whole self.old.way }
+        ensures turns { Turns (at self.old (S.taken sink.old) (S.faults sink.old)) (at self.new (S.taken sink.new) (S.faults sink.new)) (spec.with_text text.now) }
     {
+        if self.fault.is_some() {
+            return;
+        }
+        match self.way.push(sink, text) {
+            Ok(()) => {}
+            Err(fault) => self.fault = Some(fault),
+        }
+    }
+
+    /// Writes the line's end or the space that is due before a token that begins with a character.
+    fn gap<S: Sink>(&mut self, sink: &mut S, first: Option<char>)
+        ensures { Turns (at self.old (S.taken sink.old) (S.faults sink.old)) (at self.new (S.taken sink.new) (S.faults sink.new)) (spec.with_gap first) }
+    {
+        if self.fault.is_some() {
+            return;
+        }
         match self.left {
-            Left::Nothing => Ok(()),
-            Left::Line => self.text.push_str("\n"),
+            Left::Nothing => {}
+            Left::Line => self.push(sink, "\n"),
             Left::Token(last, number, expression) => if parts(last, number, expression, first) {
-                self.text.push_str(" ")
-            } else {
-                Ok(())
+                self.push(sink, " ");
             },
         }
     }
 
     /// Keeps the mark of the token that comes next, of what is in the source or was inserted.
-    fn keep(&mut self, in_source: bool) -> Result<(), Memory>
-        ensures { OnOk result (self.new ≡ spec.kept in_source self.old) }
+    fn keep(&mut self, in_source: bool)
+        ensures { (taken : Option (List ℕ)) (faults : ℕ) → Turns (at self.old taken faults) (at self.new taken faults) (spec.kept in_source) }
     {
-        let at = self.text.len();
-        match self.due {
-            Some(pos) => {
-                self.marks.push((at, Some(pos)))?;
-                self.due = None;
-                self.inserted = false;
-            }
-            None => {
-                if !in_source && !self.inserted {
-                    self.marks.push((at, None))?;
-                }
-                self.inserted = !in_source;
-            }
+        if self.fault.is_some() {
+            return;
         }
-        Ok(())
+        let kept = self.way.mark(self.due, self.inserted, in_source);
+        self.inserted = self.due.is_none() && !in_source;
+        self.due = None;
+        if kept.is_err() {
+            self.fault = Some(PrintFault::Memory);
+        }
     }
 
-    /// Writes a token of this spelling, and the end of the line after it where there is one.
-    fn write(
+    /// Writes a token of this spelling, unless there was a fault.
+    fn put<S: Sink>(
         &mut self,
+        sink: &mut S,
         sort: Sort,
         spelling: &str,
         place: Option<Loc>,
         ends_line: bool,
-    ) -> Result<(), Memory>
-        ensures { OnOk result (self.new ≡ spec.put_spelled self.old sort spelling.now (is_some place) ends_line) }
+    )
+        ensures { Turns (at self.old (S.taken sink.old) (S.faults sink.old)) (at self.new (S.taken sink.new) (S.faults sink.new))
+            (λ s. spec.put_spelled s sort spelling.now (is_some place) ends_line) }
     {
-        self.gap(first_of(spelling))?;
-        self.keep(place.is_some())?;
-        self.text.push_str(spelling)?;
+        self.gap(sink, first_of(spelling));
+        self.keep(place.is_some());
+        self.push(sink, spelling);
         self.left = left_after(sort, spelling, ends_line);
-        Ok(())
-    }
-
-    /// Writes a token of this spelling, as long as memory isn't wanting.
-    fn put(&mut self, sort: Sort, spelling: &str, place: Option<Loc>, ends_line: bool)
-        ensures { IfWhole self.new (self.new ≡ spec.put_spelled self.old sort spelling.now (is_some place) ends_line) }
-    {
-        if !self.wanting && self.write(sort, spelling, place, ends_line).is_err() {
-            self.wanting = true;
-        }
     }
 
     /// Writes a word.
-    #[tactic(auto, unfolding(crate::specs::Sheets::put))]
-    pub fn word(&mut self, place: Option<Loc>, word: &str)
-        ensures { IfWhole self.new (self.new ≡ spec.put self.old (tokens.word place word.now)) }
+    pub fn word<S: Sink>(&mut self, sink: &mut S, place: Option<Loc>, word: &str)
+        ensures { Puts (at self.old (S.taken sink.old) (S.faults sink.old)) (at self.new (S.taken sink.new) (S.faults sink.new)) (tokens.word place word.now ∷ []) }
     {
-        self.put(Sort::Other, word, place, false);
+        self.put(sink, Sort::Other, word, place, false);
     }
 
     /// Writes a number.
-    #[tactic(auto, unfolding(crate::specs::Sheets::put))]
-    pub fn number(&mut self, place: Option<Loc>, digits: &str)
-        ensures { IfWhole self.new (self.new ≡ spec.put self.old (tokens.token place (token.Numeral digits.now))) }
+    pub fn number<S: Sink>(&mut self, sink: &mut S, place: Option<Loc>, digits: &str)
+        ensures { Puts (at self.old (S.taken sink.old) (S.faults sink.old)) (at self.new (S.taken sink.new) (S.faults sink.new)) (tokens.token place (token.Numeral digits.now) ∷ []) }
     {
-        self.put(Sort::Number, digits, place, false);
+        self.put(sink, Sort::Number, digits, place, false);
     }
 
     /// Writes a string, or a part of a template.
-    #[tactic(auto, unfolding(crate::specs::Sheets::put))]
-    pub fn literal(&mut self, place: Option<Loc>, spelling: &str)
-        ensures string { IfWhole self.new (self.new ≡ spec.put self.old (tokens.token place (token.StringLiteral spelling.now))) }
-        ensures whole { IfWhole self.new (self.new ≡ spec.put self.old (tokens.token place (token.NoSubstitutionTemplate spelling.now))) }
-        ensures head { IfWhole self.new (self.new ≡ spec.put self.old (tokens.token place (token.TemplateHead spelling.now))) }
-        ensures middle { IfWhole self.new (self.new ≡ spec.put self.old (tokens.token place (token.TemplateMiddle spelling.now))) }
-        ensures tail { IfWhole self.new (self.new ≡ spec.put self.old (tokens.token place (token.TemplateTail spelling.now))) }
+    pub fn literal<S: Sink>(&mut self, sink: &mut S, place: Option<Loc>, spelling: &str)
+        ensures string { Puts (at self.old (S.taken sink.old) (S.faults sink.old)) (at self.new (S.taken sink.new) (S.faults sink.new)) (tokens.token place (token.StringLiteral spelling.now) ∷ []) }
+        ensures whole { Puts (at self.old (S.taken sink.old) (S.faults sink.old)) (at self.new (S.taken sink.new) (S.faults sink.new)) (tokens.token place (token.NoSubstitutionTemplate spelling.now) ∷ []) }
+        ensures head { Puts (at self.old (S.taken sink.old) (S.faults sink.old)) (at self.new (S.taken sink.new) (S.faults sink.new)) (tokens.token place (token.TemplateHead spelling.now) ∷ []) }
+        ensures middle { Puts (at self.old (S.taken sink.old) (S.faults sink.old)) (at self.new (S.taken sink.new) (S.faults sink.new)) (tokens.token place (token.TemplateMiddle spelling.now) ∷ []) }
+        ensures tail { Puts (at self.old (S.taken sink.old) (S.faults sink.old)) (at self.new (S.taken sink.new) (S.faults sink.new)) (tokens.token place (token.TemplateTail spelling.now) ∷ []) }
     {
-        self.put(Sort::Other, spelling, place, false);
+        self.put(sink, Sort::Other, spelling, place, false);
     }
 
     /// Writes a regular expression.
-    #[tactic(auto, unfolding(crate::specs::Sheets::put))]
-    pub fn expression(&mut self, place: Option<Loc>, body: &str, flags: &str)
-        ensures { IfWhole self.new (self.new ≡ spec.put self.old (tokens.token place (tokens.regular_expression body.now flags.now))) }
+    pub fn expression<S: Sink>(&mut self, sink: &mut S, place: Option<Loc>, body: &str, flags: &str)
+        ensures { Puts (at self.old (S.taken sink.old) (S.faults sink.old)) (at self.new (S.taken sink.new) (S.faults sink.new)) (tokens.token place (tokens.regular_expression body.now flags.now) ∷ []) }
     {
         match format!(in self.alloc; "/{body}/{flags}") {
-            Ok(spelling) => self.put(Sort::Expression, &spelling, place, false),
-            Err(_) => self.wanting = true,
+            Ok(spelling) => self.put(sink, Sort::Expression, &spelling, place, false),
+            Err(_) => self.want(),
         }
+    }
+
+    /// Notes that memory is wanting, unless there was a fault before.
+    fn want(&mut self)
+        ensures { (taken : Option (List ℕ)) (faults : ℕ) (tokens : List Written) → Puts (at self.old taken faults) (at self.new taken faults) tokens }
+    {
+        if self.fault.is_some() {
+            return;
+        }
+        self.fault = Some(PrintFault::Memory);
     }
 
     /// Writes a punctuator.
-    #[tactic(auto, unfolding(crate::specs::Sheets::put))]
-    pub fn mark(&mut self, place: Option<Loc>, punctuator: Punctuator)
-        ensures { IfWhole self.new (self.new ≡ spec.put self.old (tokens.mark place punctuator)) }
+    pub fn mark<S: Sink>(&mut self, sink: &mut S, place: Option<Loc>, punctuator: Punctuator)
+        ensures { Puts (at self.old (S.taken sink.old) (S.faults sink.old)) (at self.new (S.taken sink.new) (S.faults sink.new)) (tokens.mark place punctuator ∷ []) }
     {
-        self.put(Sort::Other, punctuator.spelling(), place, false);
+        self.put(sink, Sort::Other, punctuator.spelling(), place, false);
     }
 
     /// Writes a punctuator that ends its line.
-    #[tactic(auto, unfolding(crate::specs::Sheets::put))]
-    pub fn last_mark(&mut self, place: Option<Loc>, punctuator: Punctuator)
-        ensures { IfWhole self.new (self.new ≡ spec.put self.old (tokens.last_mark place punctuator)) }
+    pub fn last_mark<S: Sink>(&mut self, sink: &mut S, place: Option<Loc>, punctuator: Punctuator)
+        ensures { Puts (at self.old (S.taken sink.old) (S.faults sink.old)) (at self.new (S.taken sink.new) (S.faults sink.new)) (tokens.last_mark place punctuator ∷ []) }
     {
-        self.put(Sort::Other, punctuator.spelling(), place, true);
+        self.put(sink, Sort::Other, punctuator.spelling(), place, true);
     }
 
-    /// The text and the marks, the last line ended where it is due. It fails where memory is wanting
-    /// or was.
-    pub fn finish(self) -> Result<(String, Vec<(usize, Option<Pos>)>), Memory>
-        ensures { IfOk result (λ parts. (self.wanting ≡ false) × (string_bytes parts.0 ≡ spec.ended self) × (parts.1.items ≡ self.marks)) }
+    /// Ends the last line where that is due.
+    fn end<S: Sink>(&mut self, sink: &mut S)
+        ensures way { is_whole self.new.way ≡ is_whole self.old.way }
+        ensures turns { Turns (at self.old (S.taken sink.old) (S.faults sink.old)) (at self.new (S.taken sink.new) (S.faults sink.new)) (λ s. spec.with_text (spec.end_of s.left) s) }
     {
-        let Sheet {
-            alloc: _,
-            text,
-            left,
-            marks,
-            inserted: _,
-            due: _,
-            wanting,
-        } = self;
-        if wanting {
+        if self.fault.is_some() {
+            return;
+        }
+        if matches!(self.left, Left::Line) {
+            self.push(sink, "\n");
+        }
+    }
+
+    /// The text and the marks of a sheet that is held whole, the last line ended where it is due. It
+    /// fails where memory is wanting or was.
+    pub fn finish_whole<S: Sink>(
+        self,
+        sink: &mut S,
+    ) -> Result<(String, Vec<(usize, Option<Pos>)>), Memory>
+        requires { is_whole self.way ≡ true }
+        ensures { IfOk result (λ parts. (start : Start) (s : spec.Sheet) → Stands start (at self (S.taken sink.old) (S.faults sink.old)) s
+            → (string_bytes parts.0 ≡ spec.ended s) × (parts.1.items ≡ s.marks)) }
+    {
+        let mut sheet = self;
+        sheet.end(sink);
+        if sheet.fault.is_some() {
             return Err(AllocError);
         }
-        let mut text = text;
-        if matches!(left, Left::Line) {
-            text.push_str("\n")?;
+        Ok(sheet.way.into_whole())
+    }
+
+    /// Hands on the last piece of a sheet that goes to a sink, the last line ended where it is due.
+    pub fn finish_in_pieces<S: Sink>(self, sink: &mut S) -> Result<(), PrintFault>
+        requires { is_whole self.way ≡ false }
+        ensures { (start : Start) (s : spec.Sheet) → Stands start (at self (S.taken sink.old) (S.faults sink.old)) s
+            → OnOk result (S.taken sink.new ≡ after_more start.taken (spec.ended s))
+            × TakesPrefix start.taken (S.taken sink.new) (spec.ended s) × HasPrintCause start.faults (S.faults sink.new) result }
+    {
+        let mut sheet = self;
+        sheet.end(sink);
+        match sheet.fault {
+            Some(fault) => Err(fault),
+            None => sheet.way.finish(sink),
         }
-        Ok((text, marks))
     }
 }

@@ -1,8 +1,8 @@
 // How the trees of texts are printed, and from where in the source what is printed comes.
 use crate::place::read;
 use crate::spelled::{bytes_of, push_lines, push_number};
-use cov_base::Memory;
-use js_print::{Printed, print};
+use cov_base::{Failed, Memory, MemorySink};
+use js_print::{PrintFault, Printed, print, print_to};
 use js_same::same;
 use js_tree::{File, Pos};
 use std::alloc::Global;
@@ -36,6 +36,49 @@ fn prints_again(alloc: Global, file: &File, lines: &str) -> Result<bool, Memory>
             Ok(same(file, &again) && printed.bytes.as_str() == lines)
         }
         Err(_) => Ok(false),
+    }
+}
+
+/// Prints the tree of a text, so many times over, to a sink whose write of a number fails, as `TIMES NUMBER TEXT` says:
+/// how many bytes it has taken, and how that ends. False where the line or the text isn't understood.
+pub(crate) fn print_pieces(alloc: Global, rest: &str, page: &mut String) -> Result<bool, Memory> {
+    let Some((times, rest)) = rest.split_once(' ') else {
+        return Ok(false);
+    };
+    let Some((number, text)) = rest.split_once(' ') else {
+        return Ok(false);
+    };
+    let (Ok(times), Ok(number)) = (times.parse::<u16>(), number.parse::<u64>()) else {
+        return Ok(false);
+    };
+    let Ok(file) = read(alloc, repeated(alloc, times, text)?)? else {
+        return Ok(false);
+    };
+    let mut sink = MemorySink::new(alloc, Vec::from_slice(alloc, &[number])?)?;
+    let end = print_to(alloc, &file, &mut sink);
+    page.push_str("= ")?;
+    push_number(alloc, sink.taken().len() as u64, page)?;
+    page.push_str(end_of(end))?;
+    Ok(true)
+}
+
+/// The bytes of a text, so many times over.
+fn repeated(alloc: Global, times: u16, text: &str) -> Result<Vec<u8>, Memory> {
+    let bytes = bytes_of(alloc, text)?;
+    let mut all = Vec::new(alloc);
+    for _ in 0..times {
+        all.extend_from_slice(&bytes)?;
+    }
+    Ok(all)
+}
+
+/// How a text that is printed in pieces ends.
+fn end_of(end: Result<(), PrintFault>) -> &'static str {
+    match end {
+        Ok(()) => ", all\n",
+        Err(PrintFault::Sink(Failed::Device)) => ", and the sink failed\n",
+        Err(PrintFault::Sink(Failed::Memory)) => ", and the sink wanted memory\n",
+        Err(PrintFault::Memory) => ", and memory was wanting\n",
     }
 }
 

@@ -16,6 +16,8 @@
 //     height TEXT      the height of the tree that the text is read to
 //     same TEXT <> TEXT   whether the two are read to the same but for places and parentheses
 //     prints TEXT      the lines that the tree of the text is printed as (`>`), or where and why it is refused (`!`)
+//     pieces TIMES N TEXT   prints the tree of the text, TIMES over, to a sink whose write N fails: how many bytes it has
+//                      taken then, and how that ends (`=`)
 //     marks TEXT       the marks of these lines, and what begins there in the text
 //
 // Texts, paths and words are in percent encoding, and so is what is printed and said. A line that is none of these
@@ -23,7 +25,7 @@
 use crate::call::Setting;
 use crate::names::names_of;
 use crate::parts::run_parts;
-use crate::printed::{marks_of, print_lines};
+use crate::printed::{marks_of, print_lines, print_pieces};
 use crate::shape::{height_of, same_of};
 use crate::spelled::bytes_of;
 use crate::tokens::{template_of, tokens_of};
@@ -81,6 +83,7 @@ fn perform(
             print_lines(alloc, rest, page)?;
             Ok(true)
         }
+        "pieces" => print_pieces(alloc, rest, page),
         _ => match answer(alloc, word, rest)? {
             Some(answer) => {
                 page.push_str("> ")?;

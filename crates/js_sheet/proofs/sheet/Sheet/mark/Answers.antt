@@ -1,0 +1,7 @@
+use Rattle.std.proofs.Common.{false}
+use Rattle.js_text.specs.Token as T
+use Rattle.js_sheet.proofs.Standing.{puts_spelled}
+use Rattle.js_sheet.proofs.sheet.Sheet.mark.Goals as goal
+
+pub returns : goal.returns
+returns g c = puts_spelled c.args.place (T.Punctuator c.args.punctuator) false c.spelling.result.now c.spelling.ensures c.put.ensures

@@ -1,4 +1,0 @@
-use Rattle.js_sheet.proofs.words.put_debugger.Goals as goal
-
-pub returns : goal.returns
-returns c = c.word.ensures
