@@ -4,10 +4,12 @@
 #![tactic(auto)]
 
 mod boxed;
+mod data;
 mod items;
 mod text;
 
 pub use boxed::Boxed;
+pub use data::{Data, DataProperty};
 pub use items::Items;
 pub use text::Text;
 

@@ -42,15 +42,15 @@ finds_read {turns = turns} {c = c} {d = d} {g = g} {o = o} {p = p} {q = q} t s h
     ∙ sym (read_found t s h)
 
 -- and with one that is refused
-pub finds_refused : (turns : Turns) (c : Config) {o : Option Loc} {a b e g k p q : Find} (t : Token) → turn c t ≡ None → o ≡ callee c → a ≡ one c t → b ≡ two_back turns t → e ≡ three_back turns t → g ≡ group c t → k ≡ arrow_after turns o t → p ≡ proto_back turns t → q ≡ parameter c t →
+pub finds_refused : (turns : Turns) (c : Config) {o : Option Loc} {a b e g k p q : Find} (t : Token) → turn c t ≡ None → o ≡ callee c → a ≡ two_back turns t → b ≡ three_back turns t → e ≡ one c t → g ≡ group c t → k ≡ arrow_after turns o t → p ≡ proto_back turns t → q ≡ parameter c t →
     option_or (option_or (option_or (option_or (option_or (option_or a b) e) g) k) p) q ≡ found turns c t
 finds_refused turns c {a = a} {b = b} {e = e} {g = g} {k = k} {p = p} {q = q} t refused is ha hb he hg hk hp hq =
     seven_first a b e g k p q
     ∙ ap (λ x. first_of (x ∷ b ∷ e ∷ g ∷ None ∷ k ∷ p ∷ q ∷ [])) ha
-    ∙ ap (λ x. first_of (one c t ∷ x ∷ e ∷ g ∷ None ∷ k ∷ p ∷ q ∷ [])) hb
-    ∙ ap (λ x. first_of (one c t ∷ two_back turns t ∷ x ∷ g ∷ None ∷ k ∷ p ∷ q ∷ [])) he
-    ∙ ap (λ x. first_of (one c t ∷ two_back turns t ∷ three_back turns t ∷ x ∷ None ∷ k ∷ p ∷ q ∷ [])) hg
-    ∙ ap (λ x. first_of (one c t ∷ two_back turns t ∷ three_back turns t ∷ group c t ∷ x ∷ k ∷ p ∷ q ∷ [])) (ap (λ x. Found.outside x t) (sym refused))
-    ∙ ap (λ x. first_of (one c t ∷ two_back turns t ∷ three_back turns t ∷ group c t ∷ Found.outside (turn c t) t ∷ x ∷ p ∷ q ∷ [])) (hk ∙ ap (λ x. arrow_after turns x t) is ∙ sym (called_is turns c t))
-    ∙ ap (λ x. first_of (one c t ∷ two_back turns t ∷ three_back turns t ∷ group c t ∷ Found.outside (turn c t) t ∷ called turns c t ∷ x ∷ q ∷ [])) hp
-    ∙ ap (λ x. first_of (one c t ∷ two_back turns t ∷ three_back turns t ∷ group c t ∷ Found.outside (turn c t) t ∷ called turns c t ∷ proto_back turns t ∷ x ∷ [])) hq
+    ∙ ap (λ x. first_of (two_back turns t ∷ x ∷ e ∷ g ∷ None ∷ k ∷ p ∷ q ∷ [])) hb
+    ∙ ap (λ x. first_of (two_back turns t ∷ three_back turns t ∷ x ∷ g ∷ None ∷ k ∷ p ∷ q ∷ [])) he
+    ∙ ap (λ x. first_of (two_back turns t ∷ three_back turns t ∷ one c t ∷ x ∷ None ∷ k ∷ p ∷ q ∷ [])) hg
+    ∙ ap (λ x. first_of (two_back turns t ∷ three_back turns t ∷ one c t ∷ group c t ∷ x ∷ k ∷ p ∷ q ∷ [])) (ap (λ x. Found.outside x t) (sym refused))
+    ∙ ap (λ x. first_of (two_back turns t ∷ three_back turns t ∷ one c t ∷ group c t ∷ Found.outside (turn c t) t ∷ x ∷ p ∷ q ∷ [])) (hk ∙ ap (λ x. arrow_after turns x t) is ∙ sym (called_is turns c t))
+    ∙ ap (λ x. first_of (two_back turns t ∷ three_back turns t ∷ one c t ∷ group c t ∷ Found.outside (turn c t) t ∷ called turns c t ∷ x ∷ q ∷ [])) hp
+    ∙ ap (λ x. first_of (two_back turns t ∷ three_back turns t ∷ one c t ∷ group c t ∷ Found.outside (turn c t) t ∷ called turns c t ∷ proto_back turns t ∷ x ∷ [])) hq

@@ -74,9 +74,10 @@ fn found_refused(
         → turns.turn c (plain_token token.entry) ≡ None → find ≡ spec.found before c (plain_token token.entry)) }
 {
     Ok(
-        one(seen.sight, token)
-            .or(recent.two_back(alloc, token)?)
+        recent
+            .two_back(alloc, token)?
             .or(recent.three_back(alloc, token)?)
+            .or(one(seen.sight, token))
             .or(seen.group)
             .or(recent.called(seen.callee, token))
             .or(recent.proto_back(alloc, token)?)

@@ -128,11 +128,11 @@ kept vs us t opening (searched {ts = ts} {turns = turns} {c = c} x s none go) h 
 missed : {ts : List Token} {turns : Turns} {c d : Config} (vs us : List Token) (t : Token) → Searched ts turns c → ts ≡ vs ++ us → run Start vs ≡ Some d → Whole d us t → found turns c t ≡ None → ⊥
 missed {turns = turns} {c = c} vs _ t s are ran (of_one told) h =
     let q = same_place (sym (ap (λ x. run Start x) (are ∙ append-nil vs)) ∙ searched_run s) ran in
-    told (subst (λ x. one x t ≡ None) q (off_at (finds turns c t) 0 h))
+    told (subst (λ x. one x t ≡ None) q (off_at (finds turns c t) 2 h))
 missed {turns = turns} {c = c} vs _ t s are ran (of_two {t = u} told) h =
     let l = last_turn vs u s are in
     let q = same_place (searched_run l.read) ran in
-    told (subst (λ x. two x u t ≡ None) q (subst (λ x. two_back x t ≡ None) l.are (off_at (finds turns c t) 1 h)))
+    told (subst (λ x. two x u t ≡ None) q (subst (λ x. two_back x t ≡ None) l.are (off_at (finds turns c t) 0 h)))
 missed {turns = turns} {c = c} vs _ t s are ran (of_proto {t = u} told) h =
     let l = last_turn vs u s are in
     let q = same_place (searched_run l.read) ran in
@@ -141,7 +141,7 @@ missed {turns = turns} {c = c} vs _ t s are ran (of_three {t = u} {name = v} tol
     let l = last_turn (vs ++ u ∷ []) v s (are ∙ sym (append_assoc vs (u ∷ []) (v ∷ []))) in
     let m = last_turn vs u l.read refl in
     let q = same_place (searched_run m.read) ran in
-    told (subst (λ x. three x u v t ≡ None) q (subst (λ x. three_back ((l.place, v) ∷ x) t ≡ None) m.are (subst (λ x. three_back x t ≡ None) l.are (off_at (finds turns c t) 2 h))))
+    told (subst (λ x. three x u v t ≡ None) q (subst (λ x. three_back ((l.place, v) ∷ x) t ≡ None) m.are (subst (λ x. three_back x t ≡ None) l.are (off_at (finds turns c t) 1 h))))
 missed {turns = turns} {c = c} vs _ t s are ran (of_group {ts = us} r told) h =
     let q = same_place (sym (ap (λ x. run Start x) are) ∙ searched_run s) (after_run vs us ran ∙ r) in
     told (subst (λ x. group x t ≡ None) q (off_at (finds turns c t) 3 h))

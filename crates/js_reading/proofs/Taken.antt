@@ -68,7 +68,7 @@ few {a = a} {b = b} {c = c} {e = e} g o p q ha hb hc he =
 
 pub read_found : {ts : List Token} {turns : Turns} {c d : Config} (t : Token) → Searched ts turns c → turn c t ≡ Some d → found turns c t ≡ first_of (group c t ∷ outside (Some d) t ∷ proto_back turns t ∷ parameter c t ∷ [])
 read_found {turns = turns} {c = c} {d = d} t s h =
-    few (group c t) (outside (turn c t) t) (proto_back turns t) (parameter c t) (no_one t s h) (no_two_back t s h) (no_three_back t s h) (no_called t s h) ∙ ap (λ o. first_of (group c t ∷ outside o t ∷ proto_back turns t ∷ parameter c t ∷ [])) h
+    few (group c t) (outside (turn c t) t) (proto_back turns t) (parameter c t) (no_two_back t s h) (no_three_back t s h) (no_one t s h) (no_called t s h) ∙ ap (λ o. first_of (group c t ∷ outside o t ∷ proto_back turns t ∷ parameter c t ∷ [])) h
 
 pub read_finds : {ts : List Token} {turns : Turns} {c d : Config} (t : Token) → Searched ts turns c → turn c t ≡ Some d → found turns c t ≡ first_of (shown c d t ∷ outside (Some d) t ∷ proto_back turns t ∷ parameter c t ∷ [])
 read_finds {turns = turns} {c = c} {d = d} t s h = read_found t s h ∙ ap (λ x. first_of (x ∷ outside (Some d) t ∷ proto_back turns t ∷ parameter c t ∷ [])) (group_shown c d t h)

@@ -207,8 +207,9 @@ called turns (Due slot.Call w [] ps l fs) t = arrow_after turns (named_callee ps
 called turns (Due slot.New w [] ps l fs) t = arrow_after turns (named_callee ps) t
 called turns c t = None
 
+-- what began at an earlier token comes first: a word after `get`, `set` or `async` is a key, and begins no form of its own
 abbrev pub finds : Turns → Config → Token → List Find
-finds turns c t = one c t ∷ two_back turns t ∷ three_back turns t ∷ group c t ∷ outside (turn c t) t ∷ called turns c t ∷ proto_back turns t ∷ parameter c t ∷ []
+finds turns c t = two_back turns t ∷ three_back turns t ∷ one c t ∷ group c t ∷ outside (turn c t) t ∷ called turns c t ∷ proto_back turns t ∷ parameter c t ∷ []
 
 abbrev pub found : Turns → Config → Token → Find
 found turns c t = first_of (finds turns c t)

@@ -8,6 +8,8 @@ mod place;
 mod tree;
 mod words;
 
+pub use items::{Data, DataProperty};
+
 pub use construct::{BranchKind, Construct, ConstructKind};
 pub use hint::Hint;
 pub use operators::{
