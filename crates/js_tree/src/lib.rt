@@ -8,10 +8,9 @@ mod place;
 mod tree;
 mod words;
 
-pub use items::{Data, DataProperty};
-
 pub use construct::{BranchKind, Construct, ConstructKind};
 pub use hint::Hint;
+pub use items::{Data, DataProperty};
 pub use operators::{
     AssignmentOperator, BinaryOperator, LogicalOperator, UnaryOperator, UpdateOperator,
     VariableKind,
