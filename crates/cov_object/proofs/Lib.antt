@@ -1,6 +1,7 @@
 pub mod BranchLemmas
 pub mod ByFile
 pub mod Files
+pub mod DataForms
 pub mod DigitIds
 pub mod EscapeLemmas
 pub mod IdOrder

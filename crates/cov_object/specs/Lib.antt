@@ -1,5 +1,6 @@
 pub mod Branch
 pub mod Files
+pub mod Data
 pub mod Json
 pub mod JsonText
 pub mod Location

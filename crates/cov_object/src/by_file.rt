@@ -108,7 +108,7 @@ fn next_answer(
 }
 
 // What a member tells: a file, or why it is none.
-fn answer_of(
+pub(crate) fn answer_of(
     alloc: Global,
     key: &str,
     value: &Value,
@@ -124,7 +124,7 @@ fn answer_of(
 }
 
 // All files, or the first fault.
-fn all_files(
+pub(crate) fn all_files(
     alloc: Global,
     answers: BTreeMap<String, Result<FileCoverage, CoverageFault>>,
 ) -> Result<CoverageMap, CoverageFault>

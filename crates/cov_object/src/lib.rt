@@ -4,6 +4,7 @@
 mod branch;
 mod by_file;
 mod counted;
+mod data;
 mod described;
 mod description;
 mod digits;
@@ -31,6 +32,7 @@ mod things;
 mod write;
 
 pub use branch::BranchCoverage;
+pub use data::from_data;
 pub use fault::CoverageFault;
 pub use file::{FileCoverage, FunctionCoverage, PathCoverage, StatementCoverage};
 pub use json_text::read_value;
