@@ -3,7 +3,7 @@ ghost use Rattle.std.specs.Prelude.{◌≡◌, ◌≢◌, ◌+◌, ◌≤◌, ma
 ghost use Rattle.serde_json.specs.Data.{depth as depth_in, items_depth, members_depth};
 ghost use Rattle.serde_json.specs.View.{view, items_view, members_view, items_of};
 ghost use Rattle.cov_object.specs.Data as spec;
-ghost use Rattle.cov_object.specs.Data.{value_of as data_value, member_of, depth_of, property_depth, deepest};
+ghost use Rattle.cov_object.specs.Data.{value_of as json_value_of, member_of, depth_of, property_depth, deepest};
 ghost use Rattle.cov_object.specs.Json.{by_key};
 ghost use Rattle.cov_object.specs.SourceMapText.{most_depth};
 ghost use Rattle.cov_object.specs.declared.fault.CoverageFault.TheVariants.{Memory as OutOfMemory};
@@ -24,14 +24,14 @@ const WHOLE_DEPTH: u64 = 127;
 /// The coverage map that a tree of data tells: the same as `read_json` gives for its JSON, however long
 /// that is. `BadJson` comes exactly where it nests more than 127 deep, before all else; the other
 /// faults come as `read_json` has them, and `TooLong` never. Only want of memory may come besides.
-pub fn from_data(alloc: Global, data: &Data) -> Result<CoverageMap, CoverageFault>
-    ensures ok { IfOk result (λ map. spec.coverage_of_data data.now ≡ Ok map) }
-    ensures err { IfErr result (λ fault. fault ≢ OutOfMemory → spec.coverage_of_data data.now ≡ Err fault) }
+pub fn from_data(alloc: Global, tree: &Data) -> Result<CoverageMap, CoverageFault>
+    ensures ok { IfOk result (λ map. spec.coverage_of_data tree.now ≡ Ok map) }
+    ensures err { IfErr result (λ fault. fault ≢ OutOfMemory → spec.coverage_of_data tree.now ≡ Err fault) }
 {
-    if !nests_within(data, WHOLE_DEPTH) {
+    if !nests_within(tree, WHOLE_DEPTH) {
         return Err(CoverageFault::BadJson);
     }
-    match data {
+    match tree {
         Data::Null => Err(bad_member(alloc, "", "file")),
         Data::Boolean(_) => Err(bad_member(alloc, "", "file")),
         Data::Number(_) => Err(bad_member(alloc, "", "file")),
@@ -66,10 +66,10 @@ fn answers_in(
 // Whether a tree nests no deeper than this.
 #[cycle(nests)]
 #[tactic(auto, using(crate::proofs::DataForms::data_rules))]
-fn nests_within(data: &Data, depth: u64) -> bool
-    ensures { result ≡ nat_le (depth_of data.now) depth }
+fn nests_within(tree: &Data, depth: u64) -> bool
+    ensures { result ≡ nat_le (depth_of tree.now) depth }
 {
-    match data {
+    match tree {
         Data::Null => true,
         Data::Boolean(_) => true,
         Data::Number(_) => true,
@@ -109,11 +109,11 @@ fn properties_nest_within(properties: &[DataProperty], depth: u64) -> bool
 // The JSON value that a tree is.
 #[cycle(value)]
 #[tactic(auto, using(crate::proofs::DataForms::data_rules))]
-fn value_of(alloc: Global, data: &Data) -> Result<Value, Memory>
-    ensures value { IfOk result (λ value. view value ≡ data_value data.now) }
-    ensures nests { IfOk result (λ value. depth_in (view value) ≤ depth_of data.now) }
+fn value_of(alloc: Global, tree: &Data) -> Result<Value, Memory>
+    ensures value { IfOk result (λ value. view value ≡ json_value_of tree.now) }
+    ensures nests { IfOk result (λ value. depth_in (view value) ≤ depth_of tree.now) }
 {
-    match data {
+    match tree {
         Data::Null => Ok(Value::Null),
         Data::Boolean(truth) => Ok(Value::Bool(*truth)),
         Data::Number(n) => Ok(Value::Number(Number::from(*n))),
@@ -126,7 +126,7 @@ fn value_of(alloc: Global, data: &Data) -> Result<Value, Memory>
 #[cycle(value)]
 #[tactic(auto, using(crate::proofs::DataForms::data_rules))]
 fn values_of(alloc: Global, items: &[Data]) -> Result<Vec<Value>, Memory>
-    ensures values { IfOk result (λ values. items_view values.items ≡ items_of (map data_value items.now)) }
+    ensures values { IfOk result (λ values. items_view values.items ≡ items_of (map json_value_of items.now)) }
     ensures nest { IfOk result (λ values. items_depth (items_view values.items) ≤ deepest (map depth_of items.now)) }
 {
     let mut values = Vec::new(alloc);

@@ -56,19 +56,19 @@ members_of-loop-property-preserved t c =
 
 pub value_of-returns-in-Null-clause-value : goal.value_of-returns-in-Null-clause-value
 value_of-returns-in-Null-clause-value t c =
-    let is : c.args.data.now ≡ tree.Null = search rules in
+    let is : c.args.tree.now ≡ tree.Null = search rules in
     let seen : view json.Null ≡ null = search (rules, the_lemmas) in
     seen ∙ sym (ap value_of is ∙ value_null)
 
 pub value_of-returns-in-Boolean-clause-value : goal.value_of-returns-in-Boolean-clause-value
 value_of-returns-in-Boolean-clause-value t c =
-    let is : c.args.data.now ≡ tree.Boolean c.in-Boolean.truth = search rules in
+    let is : c.args.tree.now ≡ tree.Boolean c.in-Boolean.truth = search rules in
     let seen : view (json.Bool c.in-Boolean.truth) ≡ boolean c.in-Boolean.truth = search (rules, the_lemmas) in
     seen ∙ sym (ap value_of is ∙ value_boolean c.in-Boolean.truth)
 
 pub value_of-returns-in-Number-clause-value : goal.value_of-returns-in-Number-clause-value
 value_of-returns-in-Number-clause-value t c =
-    let is : c.args.data.now ≡ tree.Number c.in-Number.n = search rules in
+    let is : c.args.tree.now ≡ tree.Number c.in-Number.n = search rules in
     let seen : view (json.Number c.from.result) ≡ number (num_of c.from.result.n) = search (rules, the_lemmas) in
     let held : to_z w64 (of_z w64 c.in-Number.n) ≡ c.in-Number.n = to_z-of_z w64 c.in-Number.n (search rules) in
     seen ∙ ap number c.from.ensures ∙ ap (λ n. number (of_integer n)) held ∙ sym (ap value_of is ∙ value_number c.in-Number.n)
@@ -76,37 +76,37 @@ value_of-returns-in-Number-clause-value t c =
 pub value_of-returns-in_ok-from_str-in-String-clause-value : goal.value_of-returns-in_ok-from_str-in-String-clause-value
 value_of-returns-in_ok-from_str-in-String-clause-value t c =
     let text = c.in_ok-from_str-in-String.field-0 in
-    let is : c.args.data.now ≡ tree.String c.as_str.result.now = search rules in
+    let is : c.args.tree.now ≡ tree.String c.as_str.result.now = search rules in
     let seen : view (json.String text) ≡ string (string_bytes text) = search (rules, the_lemmas) in
     let copied : string_bytes text ≡ c.as_str.result.now = search rules in
     seen ∙ ap string copied ∙ sym (ap value_of is ∙ value_string c.as_str.result.now)
 
 pub value_of-returns-in_ok-values_of-in-Array-clause-nests : goal.value_of-returns-in_ok-values_of-in-Array-clause-nests
 value_of-returns-in_ok-values_of-in-Array-clause-nests t c =
-    let is : c.args.data.now ≡ tree.Array c.as_slice.result.now = search rules in
-    let own : depth_of c.args.data.now ≡ suc (deepest (map depth_of c.as_slice.result.now)) = ap depth_of is ∙ depth_array c.as_slice.result.now in
+    let is : c.args.tree.now ≡ tree.Array c.as_slice.result.now = search rules in
+    let own : depth_of c.args.tree.now ≡ suc (deepest (map depth_of c.as_slice.result.now)) = ap depth_of is ∙ depth_array c.as_slice.result.now in
     let whole : depth (view _) ≡ _ = ap depth (view-Array c.in_ok-values_of-in-Array.field-0) in
     let within = c.in_ok-values_of-in-Array.ensures.nest in
     omega (arith, own, whole, within)
 
 pub value_of-returns-in_ok-values_of-in-Array-clause-value : goal.value_of-returns-in_ok-values_of-in-Array-clause-value
 value_of-returns-in_ok-values_of-in-Array-clause-value t c =
-    let is : c.args.data.now ≡ tree.Array c.as_slice.result.now = search rules in
+    let is : c.args.tree.now ≡ tree.Array c.as_slice.result.now = search rules in
     view-Array c.in_ok-values_of-in-Array.field-0
     ∙ ap array c.in_ok-values_of-in-Array.ensures.values
     ∙ sym (ap value_of is ∙ value_array c.as_slice.result.now)
 
 pub value_of-returns-in_ok-members_of-in-Object-clause-nests : goal.value_of-returns-in_ok-members_of-in-Object-clause-nests
 value_of-returns-in_ok-members_of-in-Object-clause-nests t c =
-    let is : c.args.data.now ≡ tree.Object c.as_slice-in-Object.result.now = search rules in
-    let own : depth_of c.args.data.now ≡ suc (deepest (map property_depth c.as_slice-in-Object.result.now)) = ap depth_of is ∙ depth_object c.as_slice-in-Object.result.now in
+    let is : c.args.tree.now ≡ tree.Object c.as_slice-in-Object.result.now = search rules in
+    let own : depth_of c.args.tree.now ≡ suc (deepest (map property_depth c.as_slice-in-Object.result.now)) = ap depth_of is ∙ depth_object c.as_slice-in-Object.result.now in
     let whole : depth (view _) ≡ _ = ap depth (view-Object c.in_ok-members_of-in-Object.field-0) in
     let within = c.in_ok-members_of-in-Object.ensures.nest in
     omega (arith, own, whole, within)
 
 pub value_of-returns-in_ok-members_of-in-Object-clause-value : goal.value_of-returns-in_ok-members_of-in-Object-clause-value
 value_of-returns-in_ok-members_of-in-Object-clause-value t c =
-    let is : c.args.data.now ≡ tree.Object c.as_slice-in-Object.result.now = search rules in
+    let is : c.args.tree.now ≡ tree.Object c.as_slice-in-Object.result.now = search rules in
     view-Object c.in_ok-members_of-in-Object.field-0
     ∙ ap object c.in_ok-members_of-in-Object.ensures.members
     ∙ sym (ap value_of is ∙ value_object c.as_slice-in-Object.result.now)
