@@ -2,16 +2,10 @@ ghost use Rattle.std.specs.Prelude.{◌≡◌, ◌≢◌, ◌⊎◌, ℕ, List, 
 ghost use Rattle.cov_base.specs.Causes.{Rose};
 ghost use Rattle.cov_base.specs.Sink.{TakesPrefix};
 ghost use Rattle.cov_words.specs.Words as asked;
-ghost use Rattle.cov_tool.specs.Program.{IsDue, Comes, IsUsage, IsOutput, PrintsAll, PrintsOutput, PrintsPrefix, PrintsNothing, Stores, CountsPuts, SaysFailedRead, SaysLines, SaysAtMost};
+ghost use Rattle.cov_commands.specs.Program.{IsDue, Comes, IsUsage, IsOutput, PrintsAll, PrintsOutput, PrintsPrefix, PrintsNothing, Stores, CountsPuts, SaysFailedRead, SaysLines, SaysAtMost};
 
-use crate::complain::complain;
-use crate::line::Complaint;
-use crate::on_coverage::on_coverage;
-use crate::on_help::on_help;
-use crate::on_source::on_source;
-use crate::on_v8::on_v8;
-use crate::status::Status;
 use cov_base::{Sink, Store};
+use cov_commands::{Complaint, Status, complain, on_coverage, on_help, on_source, on_v8};
 use cov_words::{Command, command_of};
 use std::alloc::Global;
 

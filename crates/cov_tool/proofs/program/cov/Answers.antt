@@ -2,8 +2,8 @@
 use Rattle.std.proofs.Common.{rules, ◌≡◌, Global, Some, None, map, string_bytes, refl, subst}
 use Rattle.cov_words.specs.Words as asked
 use Rattle.cov_words.specs.declared.command.Command.TheVariants.{Help, OnSource, OnCoverage, OnV8}
-use Rattle.cov_tool.specs.Program.{PrintsPrefix, SaysAtMost, SaysLines}
-use Rattle.cov_tool.proofs.Stands.{complained, memory_is_said, usage_is_said, says_at_most, prints_nothing, stores_nothing, counts_no_puts}
+use Rattle.cov_commands.specs.Program.{PrintsPrefix, SaysAtMost, SaysLines}
+use Rattle.cov_commands.proofs.Stands.{complained, memory_is_said, usage_is_said, says_at_most, prints_nothing, stores_nothing, counts_no_puts}
 use Rattle.cov_tool.proofs.program.cov.Goals as goal
 
 -- ---- no memory for the words

@@ -1,0 +1,28 @@
+//! What the program does for each command: the work, what is printed and put, and the lines that are said.
+#![tactic(auto)]
+
+mod answer;
+mod complaints;
+mod coverage_command;
+mod exec;
+mod fault;
+mod help;
+mod help_command;
+mod line;
+mod maps;
+mod perform;
+mod print;
+mod said;
+mod source;
+mod source_command;
+mod status;
+mod v8_command;
+mod work;
+
+pub use complaints::{complain, say_out_of_memory};
+pub use coverage_command::on_coverage;
+pub use help_command::on_help;
+pub use line::Complaint;
+pub use source_command::on_source;
+pub use status::Status;
+pub use v8_command::on_v8;

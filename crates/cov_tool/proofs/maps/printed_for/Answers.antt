@@ -1,6 +1,0 @@
--- What was read stands somewhere.
-use Rattle.cov_tool.proofs.Placed.{placed}
-use Rattle.cov_tool.proofs.maps.printed_for.Goals as goal
-
-pub text_for-requires : goal.text_for-requires
-text_for-requires c = placed c.requires c.in_ok-list.ensures
