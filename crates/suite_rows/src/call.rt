@@ -6,6 +6,9 @@ use cov_tool::{Status, cov};
 use std::alloc::Global;
 use std::collections::BTreeMap;
 
+// How many calls are made at most with a write that fails.
+const MOST_WRITES: u64 = 64;
+
 /// A file that the store holds.
 #[derive(Drop)]
 struct Held {
@@ -142,6 +145,50 @@ impl Setting {
         let words = words_of(alloc, words)?;
         self.call_surely(alloc, words.as_slice(), Some(path), page)?;
         Ok(true)
+    }
+
+    /// Calls the program with the words again and again, the first write to `out` failing, then the second one, and so on until
+    /// no write fails; writes the status of each call, and how many bytes `out` has taken then.
+    pub(crate) fn call_breaking(
+        &self,
+        alloc: Global,
+        words: &str,
+        page: &mut String,
+    ) -> Result<(), Memory> {
+        let words = words_of(alloc, words)?;
+        for number in 1..=MOST_WRITES {
+            if self
+                .call_broken(alloc, words.as_slice(), number, page)?
+                .code()
+                == 0
+            {
+                break;
+            }
+        }
+        Ok(())
+    }
+
+    // The same with the write of this number, which gives the status.
+    fn call_broken(
+        &self,
+        alloc: Global,
+        words: &[String],
+        number: u64,
+        page: &mut String,
+    ) -> Result<Status, Memory> {
+        let store = MemoryStore::new(alloc, self.held(alloc)?, Vec::new(alloc))?;
+        let mut store = WantingStore::new(store, Vec::new(alloc));
+        let mut broken = Numbers::new(alloc);
+        broken.fails.push(number)?;
+        let mut out = broken.sink(alloc)?;
+        let mut err = Numbers::new(alloc).sink(alloc)?;
+        let status = cov(alloc, words, &mut store, &mut out, &mut err);
+        page.push_str("= ")?;
+        push_number(alloc, status.code() as u64, page)?;
+        page.push_str(" ")?;
+        push_number(alloc, out.taken().len() as u64, page)?;
+        page.push_str("\n")?;
+        Ok(status)
     }
 
     fn call_surely(

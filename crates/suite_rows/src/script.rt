@@ -8,6 +8,8 @@
 //     (no word)        from here on the store is empty, and nothing fails
 //     cov WORDS        calls the program: below it stand the lines printed (`>`) and said (`!`), and the status (`=`)
 //     puts PATH WORDS  the same, and what the store then holds at the path (`+`)
+//     breaks WORDS     the same again and again, the first write to `out` failing, then the second, and so on until none
+//                      fails: the status of each call, and how many bytes `out` has taken then (`=`)
 //     parts N,N,.. TEXT   runs the text by so many steps, then by so many more: for each part the lines printed so far
 //                      (`>`), and how the run ends with the steps given so far (`=`)
 //     tokens TEXT      the text's tokens
@@ -78,6 +80,10 @@ fn perform(
             Ok(true)
         }
         "puts" => setting.call_putting(alloc, rest, page),
+        "breaks" => {
+            setting.call_breaking(alloc, rest, page)?;
+            Ok(true)
+        }
         "parts" => run_parts(alloc, rest, page),
         "prints" => {
             print_lines(alloc, rest, page)?;
