@@ -1,1 +1,3 @@
+pub mod ExprPlaces
 pub mod Gaps
+pub mod NodePlaces
