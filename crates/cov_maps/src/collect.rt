@@ -1,5 +1,6 @@
 ghost use Rattle.std.specs.Prelude.{◌≡◌, ◌++◌, IfOk};
-ghost use Rattle.cov_maps.specs.private.Left.{left_of, told_of};
+ghost use Rattle.cov_hints.specs.Left.{left_of};
+ghost use Rattle.cov_maps.specs.private.Told.{told_of};
 ghost use Rattle.js_tree.specs.declared.construct.Construct.{Construct};
 ghost use Rattle.js_tree.specs.Tree.{plain_expr, plain_file, plain_stmt};
 ghost use Rattle.cov_hints.specs.Table.{hint_in_table};
@@ -13,14 +14,12 @@ ghost use Rattle.js_walk.specs.Walk.{walk_file};
 use crate::counts::{count, count_body, count_branch, count_default, count_initializer};
 use crate::functions::{count_function, count_method, count_named, count_nameless};
 use crate::inherited::{Inherited, tell_expr, tell_stmt};
-use crate::left::Left;
 use crate::names::all_named;
 use crate::paths::{push_case_paths, push_expr_path, push_if_paths, push_operand_paths};
-use crate::places::{
-    place_as_written, place_of_body, place_of_case, place_of_concise, place_of_declarator,
-    place_of_param, place_of_property, place_of_stmt,
+use cov_hints::{
+    Hints, Left, ignores_file, place_as_written, place_of_body, place_of_case, place_of_concise,
+    place_of_declarator, place_of_param, place_of_property, place_of_stmt,
 };
-use cov_hints::{Hints, ignores_file};
 use items::{Items, Memory};
 use js_scopes::Checked;
 use js_tree::{BranchKind, Construct, Expr, ExprNode, File, Stmt, StmtNode};

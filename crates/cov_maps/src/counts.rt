@@ -1,11 +1,10 @@
 ghost use Rattle.std.specs.Prelude.{◌≡◌, ◌++◌, IfOk};
-ghost use Rattle.cov_maps.specs.private.Left.{left_of};
+ghost use Rattle.cov_hints.specs.Left.{left_of};
 ghost use Rattle.js_tree.specs.Tree.{plain_concise_body, plain_declarator, plain_expr, plain_param};
 ghost use Rattle.js_walk.specs.Constructs.{branch, counted, counted_expr, own_concise_body, own_declarator, own_param};
 
-use crate::left::Left;
 use crate::paths::push_expr_path;
-use crate::places::{place_as_written, place_of_expr};
+use cov_hints::{Left, place_as_written, place_of_expr};
 use items::{Items, Memory};
 use js_tree::{BranchKind, ConciseBody, Construct, Declarator, Expr, Loc, Param};
 use std::alloc::Global;

@@ -1,10 +1,9 @@
 ghost use Rattle.std.specs.Prelude.{◌≡◌, ◌++◌, Some, None, IfOk};
-ghost use Rattle.cov_maps.specs.private.Left.{left_of};
+ghost use Rattle.cov_hints.specs.Left.{left_of};
 ghost use Rattle.js_tree.specs.Tree.{plain_property};
 ghost use Rattle.js_walk.specs.Constructs as spec;
 
-use crate::left::Left;
-use crate::places::place_of_body;
+use cov_hints::{Left, place_of_body};
 use items::{Items, Memory, Text};
 use js_tree::{Construct, Identifier, Loc, Pos, Property, PropertyNode};
 use std::alloc::Global;

@@ -1,9 +1,10 @@
 ghost use Rattle.std.specs.Prelude.{◌≡◌};
-ghost use Rattle.cov_maps.specs.private.Left.{left_of, told_of};
+ghost use Rattle.cov_hints.specs.Left.{left_of};
+ghost use Rattle.cov_maps.specs.private.Told.{told_of};
 ghost use Rattle.js_tree.specs.Tree.{plain_expr, plain_stmt};
 ghost use Rattle.js_walk.specs.Constructs as spec;
 
-use crate::left::Left;
+use cov_hints::Left;
 use js_tree::{Expr, ExprNode, Hint, Stmt, StmtNode};
 
 // What a part of a file tells the parts in it.

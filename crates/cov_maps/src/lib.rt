@@ -5,10 +5,8 @@ mod collect;
 mod counts;
 mod functions;
 mod inherited;
-mod left;
 mod names;
 mod paths;
-mod places;
 mod zeroed;
 
 pub use collect::constructs;

@@ -1,12 +1,13 @@
 ghost use Rattle.std.specs.Prelude.{◌≡◌, ◌++◌, IfOk};
-ghost use Rattle.cov_maps.specs.private.Left.{left_of};
+ghost use Rattle.cov_hints.specs.Left.{left_of};
 ghost use Rattle.js_tree.specs.Hints as spec;
 ghost use Rattle.js_tree.specs.Places.{case_place, expr_place};
 ghost use Rattle.js_tree.specs.Tree.{plain_case, plain_cases, plain_expr, plain_stmt, plain_stmt_if};
 ghost use Rattle.js_walk.specs.Constructs.{expr_paths, if_paths};
 
-use crate::left::Left;
-use crate::places::{place_as_written, place_of_arm, place_of_case, place_of_expr, place_of_stmt};
+use cov_hints::{
+    Left, place_as_written, place_of_arm, place_of_case, place_of_expr, place_of_stmt,
+};
 use items::{Boxed, Items, Memory};
 use js_tree::{Case, Expr, ExprNode, Hint, Loc, Stmt};
 

@@ -1,7 +1,7 @@
 -- What the file's statements are told is what the file's hints leave.
 use Rattle.std.proofs.Common.{◌++◌, ap, ◌∙◌, if◌then◌else◌}
 use Rattle.cov_hints.specs.Table.{hint_in_table}
-use Rattle.cov_maps.specs.private.Left.{told_of}
+use Rattle.cov_maps.specs.private.Told.{told_of}
 use Rattle.js_tree.specs.Hints.{Ignored, Heeding}
 use Rattle.js_tree.specs.Tree.{plain_stmts}
 use Rattle.js_walk.specs.Constructs.{own_construct, tell, told}

@@ -1,6 +1,6 @@
 -- What is left of the cases comes after what is out already.
 use Rattle.std.proofs.Common.{◌≡◌, ◌++◌, drop}
-use Rattle.cov_maps.specs.private.Left.{left_of}
+use Rattle.cov_hints.specs.Left.{left_of}
 use Rattle.js_tree.specs.Hints.{case_paths}
 use Rattle.js_tree.specs.Tree.{plain_cases}
 use Rattle.cov_maps.proofs.paths.push_case_paths.Given as goal
