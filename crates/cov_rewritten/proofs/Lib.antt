@@ -1,5 +1,6 @@
 pub mod Again
 pub mod Declared
+pub mod JsonStrings
 pub mod Laws
 pub mod Low
 pub mod Numerals
@@ -12,4 +13,5 @@ pub mod Rows
 pub mod Rules
 pub mod SameRules
 pub mod This
+pub mod Values
 pub mod Words

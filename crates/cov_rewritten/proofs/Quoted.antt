@@ -57,7 +57,7 @@ quote_ascii (suc i) = omega arith
 quote_spelt : encode_utf8_all (0x22 ∷ []) ≡ 0x22 ∷ []
 quote_spelt = encodes-IsAscii (0x22 ∷ []) quote_ascii
 
-abbrev in_quotes : List ℕ → List ℕ
+abbrev pub in_quotes : List ℕ → List ℕ
 in_quotes cs = 0x22 ∷ (cs ++ 0x22 ∷ [])
 
 quotes_spelt : (cs : List ℕ) → encode_utf8_all (in_quotes cs) ≡ in_quotes (encode_utf8_all cs)
@@ -70,17 +70,18 @@ scalars_quoted : (cs : List ℕ) → all_scalars cs ≡ true → all_scalars (cs
 scalars_quoted [] h = refl
 scalars_quoted (c ∷ cs) h = let parts = and_parts _ _ h in and_from _ _ parts.0 (scalars_quoted cs parts.1)
 
-alone : (cs : List ℕ) → list_all continues_identifier cs ≡ true → token_of goal.Div (in_quotes cs) ≡ Some (StringLiteral (encode_utf8_all (in_quotes cs)), length (in_quotes cs))
+alone : (cs : List ℕ) → string_rest 0x22 zero (cs ++ 0x22 ∷ []) ≡ Some [] → token_of goal.Div (in_quotes cs) ≡ Some (StringLiteral (encode_utf8_all (in_quotes cs)), length (in_quotes cs))
 unfolding common_token starts_identifier is_digit unicode_ident
 alone cs h =
     let counted : 1 + (length (cs ++ 0x22 ∷ []) - 0) ≡ length (in_quotes cs) = omega arith in
-    rw (string_through cs h) (
+    rw h (
     ap (λ n. Some (StringLiteral (encode_utf8_all (take n (in_quotes cs))), n)) counted
     ∙ ap (λ bs. Some (StringLiteral (encode_utf8_all bs), length (in_quotes cs))) (take-length (in_quotes cs)))
 
-string_token : (w cs : List ℕ) → all_scalars cs ≡ true → encode_utf8_all cs ≡ w → list_all continues_identifier cs ≡ true → IsToken (StringLiteral (in_quotes w))
+-- a text in quotes that a string goes on through to the second of them
+pub string_token : (w cs : List ℕ) → all_scalars cs ≡ true → encode_utf8_all cs ≡ w → string_rest 0x22 zero (cs ++ 0x22 ∷ []) ≡ Some [] → IsToken (StringLiteral (in_quotes w))
 unfolding is_gap
-string_token w cs scalar spells all =
+string_token w cs scalar spells through =
     let spelt : encode_utf8_all (in_quotes cs) ≡ in_quotes w = quotes_spelt cs ∙ ap in_quotes spells in
     let scalars : all_scalars (in_quotes cs) ≡ true = scalars_quoted cs scalar in
     let same : chars (in_quotes w) ≡ in_quotes cs = ap chars (sym spelt) ∙ chars-encodes (in_quotes cs) scalars in record {
@@ -89,7 +90,7 @@ string_token w cs scalar spells all =
       no_gap = ap (first_is is_gap) same;
       some = subst (λ xs. 0 < length xs) (sym same) (let long : 0 < length (in_quotes cs) = omega arith in long);
       alone = subst (λ xs. token_of goal.Div xs ≡ Some (StringLiteral (in_quotes w), length xs)) (sym same)
-          (alone cs all ∙ ap (λ v. Some (StringLiteral v, length (in_quotes cs))) spelt);
+          (alone cs through ∙ ap (λ v. Some (StringLiteral v, length (in_quotes cs))) spelt);
     }
 
 pub quoted_string : (w : List ℕ) → IsName w → IsString (quoted w)
@@ -98,7 +99,7 @@ quoted_string w h = by h.token.utf8
     by : IsUtf8 w → IsString (quoted w)
     by (cs, (scalar, spells)) =
         let same : letters (Word w) ≡ cs = ap chars (sym spells) ∙ chars-encodes cs scalar in
-        record { token = string_token w cs scalar spells (all_of cs same); units = refl }
+        record { token = string_token w cs scalar spells (string_through cs (all_of cs same)); units = refl }
       where
         all_of : (cs : List ℕ) → letters (Word w) ≡ cs → list_all continues_identifier cs ≡ true
         all_of [] same = refl

@@ -1,14 +1,15 @@
 -- What is proved of rewritten trees, beside that they break no rule.
 use Rattle.std.specs.Prelude.{◌≡◌, ℕ, ◌+◌, ◌*◌, ◌≤◌, ◌++◌, max, Bool, true, false, List, [], ◌∷◌, None, map, codes}
-use Rattle.serde_json.specs.Data.{Data}
+use Rattle.serde_json.specs.Data.{Data, number, negative, string, array, object, Items, no_items, item, Members, no_members, member, depth}
 use Rattle.js_tree.specs.Codes.{Ordinary, functions_file, functions_stmts}
 use Rattle.js_tree.specs.Height.{height_file, height_stmts}
-use Rattle.js_tree.specs.Plain.{File, MakeFunction, MakeFunctionBody, no_param, Stmts, no_stmt, more_stmt}
+use Rattle.js_tree.specs.Plain.{File, StringKey, MakeFunction, MakeFunctionBody, no_param, Stmts, no_stmt, more_stmt}
 use Rattle.js_tree.specs.Same.{bare_file}
 use Rattle.js_scopes.specs.Checks.{first_fault}
 use Rattle.js_scopes.specs.Accepted.{Accepted}
 use Rattle.std.specs.Str.{IsUtf8}
 use Rattle.js_text.specs.Limits.{again_limits}
+use Rattle.js_reading.specs.Makes.{is_proto}
 use Rattle.js_reading.specs.Reads.{Reads}
 use Rattle.js_layout.specs.Layout.{layout}
 use Rattle.js_layout.specs.Printable.{Refers, IsString, IsExpr, AreStmts, Printable}
@@ -52,7 +53,39 @@ pub record ReadsWell (text : List ℕ) (file : File) : Type 0 where
   pub low : height_file tree ≤ again_limits.height
   pub unbroken : first_fault true tree ≡ None
 
--- the text of an accepted source, rewritten, is read again so, if the JSON in its preamble is spelt as JavaScript is
+-- ---- the preamble's values
+
+-- a text of JSON is spelt as a string is
+abbrev pub SpellsTexts : Type 0
+SpellsTexts = (s : List ℕ) → IsUtf8 s → IsString (json_string s)
+
+-- a value whose texts are UTF-8, with no number below zero and no member `__proto__`
+abbrev mutual
+  pub IsSpelt : Data → Type 0
+  IsSpelt (number (negative z)) = ⊥
+  IsSpelt (string s) = IsUtf8 s
+  IsSpelt (array ds) = AreSpelt ds
+  IsSpelt (object ms) = MembersAreSpelt ms
+  IsSpelt d = Unit {0}
+
+  pub AreSpelt : Items → Type 0
+  AreSpelt no_items = Unit {0}
+  AreSpelt (item d ds) = IsSpelt d × AreSpelt ds
+
+  pub MembersAreSpelt : Members → Type 0
+  MembersAreSpelt no_members = Unit {0}
+  MembersAreSpelt (member k d ms) = IsUtf8 k × (is_proto (StringKey (json_string k)) ≡ false) × IsSpelt d × MembersAreSpelt ms
+
+abbrev pub SpellsValues : Type 0
+SpellsValues = (d : Data) → IsSpelt d → IsExpr (literal d)
+
+-- the preamble has two levels at most for each of the value's, and its own
+abbrev pub StandsLow : Type 0
+StandsLow = (n path hash : List ℕ) (zero : Data) → height_stmts (preamble n path hash zero) ≤ 2 * depth zero + 10
+
+-- ---- a text
+
+-- the text of an accepted source, rewritten, is read again so, where the path and the hash are UTF-8, and the data is such a value, at most 11 deep
 abbrev pub RewritesWell : Type 0
 RewritesWell = (n path hash : List ℕ) (zero : Data) (bytes : List ℕ) (tree : File) → Accepted bytes tree → Refers n → IsFresh n tree →
-    IsString (json_string path) → IsString (json_string hash) → IsExpr (literal zero) → height_stmts (preamble n path hash zero) ≤ 32 → ReadsWell (layout (rewritten n path hash zero tree)) (rewritten n path hash zero tree)
+    IsUtf8 path → IsUtf8 hash → IsSpelt zero → depth zero ≤ 11 → ReadsWell (layout (rewritten n path hash zero tree)) (rewritten n path hash zero tree)
