@@ -1,4 +1,5 @@
 pub mod Again
+pub mod DecimalKeys
 pub mod Declared
 pub mod JsonStrings
 pub mod Laws

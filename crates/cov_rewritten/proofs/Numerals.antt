@@ -20,11 +20,11 @@ use Rattle.js_spelling.specs.Tokens.{IsToken}
 use Rattle.cov_rewritten.specs.Counters.{spelt}
 
 -- the digits from one on, so many
-abbrev from_digit : ℕ → ℕ → List ℕ
+abbrev pub from_digit : ℕ → ℕ → List ℕ
 from_digit first zero = []
 from_digit first (suc n) = first ∷ from_digit (suc first) n
 
-abbrev is_one_of : ℕ → ℕ → ℕ → Bool
+abbrev pub is_one_of : ℕ → ℕ → ℕ → Bool
 is_one_of first n c = list_any (λ x. c == x) (from_digit first n)
 
 any_from : (first n c : ℕ) → first ≤ c → c < first + n → is_one_of first n c ≡ true
@@ -39,7 +39,7 @@ any_from first (suc n) c h g = chosen (c == first) (is_one_of (suc first) n c) (
     chosen false d h = h refl
 
 -- what passes a test holds of what stands in a list of such
-holds_there : (test : ℕ → Bool) (xs : List ℕ) (c : ℕ) → list_all test xs ≡ true → list_any (λ x. c == x) xs ≡ true → test c ≡ true
+pub holds_there : (test : ℕ → Bool) (xs : List ℕ) (c : ℕ) → list_all test xs ≡ true → list_any (λ x. c == x) xs ≡ true → test c ≡ true
 holds_there test [] c all there = absurd (true≢false (sym there))
 holds_there test (x ∷ xs) c all there =
     let both = and_parts (test x) (list_all test xs) all in
@@ -53,7 +53,7 @@ from_not : (b : Bool) → not b ≡ true → b ≡ false
 from_not true e = absurd (true≢false (sym e))
 from_not false e = refl
 
-abbrev is_dig : ℕ → Bool
+abbrev pub is_dig : ℕ → Bool
 is_dig c = is_one_of 48 10 c
 
 abbrev is_first : ℕ → Bool
@@ -89,7 +89,7 @@ digits_end (c ∷ cs) h =
     let both = and_parts (is_dig c) (list_all is_dig cs) h in
     rw (dig_is c both.0) (digits_end cs both.1)
 
-digits_ascii : (w : List ℕ) → list_all is_dig w ≡ true → IsAscii w
+pub digits_ascii : (w : List ℕ) → list_all is_dig w ≡ true → IsAscii w
 digits_ascii [] h i = omega arith
 digits_ascii (c ∷ cs) h zero = ltb-true c 128 (holds_there (λ x. nat_lt x 128) (from_digit 48 10) c refl (and_parts (is_dig c) (list_all is_dig cs) h).0)
 digits_ascii (c ∷ cs) h (suc i) = digits_ascii cs (and_parts (is_dig c) (list_all is_dig cs) h).1 i
@@ -119,7 +119,7 @@ zero_token : IsToken (Numeral (codes "0"))
 unfolding chars common_token is_gap starts_identifier is_digit unicode_ident lib.Utf8.encode
 zero_token = record { written = refl; utf8 = (codes "0", (refl, refl)); no_gap = refl; some = omega arith; alone = refl }
 
-all_digits : (ds : List ℕ) → ((i : ℕ) → i < length ds → (48 ≤ get_or ds i 0) × (get_or ds i 0 ≤ 57)) → list_all is_dig ds ≡ true
+pub all_digits : (ds : List ℕ) → ((i : ℕ) → i < length ds → (48 ≤ get_or ds i 0) × (get_or ds i 0 ≤ 57)) → list_all is_dig ds ≡ true
 all_digits [] h = refl
 all_digits (d ∷ ds) h =
     let first = h 0 (omega arith) in
