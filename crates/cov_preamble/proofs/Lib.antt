@@ -1,0 +1,9 @@
+pub mod Apart
+pub mod Base36
+pub mod FileData
+pub mod FileSpelt
+pub mod Fresh
+pub mod Members
+pub mod Named
+pub mod Ours
+pub mod Small

@@ -1,0 +1,6 @@
+pub mod Data
+pub mod Digits
+pub mod Laws
+pub mod Name
+pub mod Pieces
+pub mod Texts
