@@ -158,7 +158,7 @@ module _ (task : SourceTask) (file : List ℕ) (told : Option Held) where
   prints_prefix before after (nothing same) tells output is = (0, omega arith, same ∙ after_nothing before)
   prints_prefix before after (some {bytes = bytes} {tree = tree} held accepted only takes) tells output (S.accepted {bytes = others} {tree = other} a) =
       let contents : bytes ≡ others = one_content told tells held a.held in
-      let trees : tree ≡ other = sym (only other (subst (λ bs. Reads bs other) (sym contents) a.accepted.source.reads)) in
+      let trees : tree ≡ other = sym (only other (subst (λ bs. Reads bs other) (sym contents) a.accepted.reads)) in
       subst (λ text. TakesPrefix before after text)
       (ap (λ bs. (answer_of task file bs tree).output) contents ∙ ap (λ t. (answer_of task file others t).output) trees) takes
     where

@@ -30,7 +30,6 @@ of_source path (fault.Syntax place) is = absurd cc
 of_source path (fault.Unsupported place form) is = absurd cc
 of_source path (fault.TooDeep place) is = absurd cc
 of_source path (fault.Broken rule) is = absurd cc
-of_source path (fault.NotRun place) is = absurd cc
 of_source path fault.WriteFailed is = absurd cc
 of_source path fault.OutOfMemory is = absurd cc
 

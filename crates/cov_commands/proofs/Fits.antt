@@ -4,7 +4,8 @@ use Rattle.js_tree.specs.Plain.{File}
 use Rattle.js_text.specs.Limits.{source_limits}
 use Rattle.cov_base.specs.Store.{Held}
 use Rattle.cov_words.specs.declared.command.SourceTask.{SourceTask}
-use Rattle.cov_commands.specs.Source.{Takes, Ends, IsDue, answer_of, status_of_end}
+use Rattle.js_scopes.specs.Accepted.{Accepted}
+use Rattle.cov_commands.specs.Source.{Ends, IsDue, answer_of, status_of_end}
 use Rattle.cov_commands.specs.Program.{GivesWay, PrintsAll}
 use Rattle.cov_commands.specs.private.Cause.{HasOnly}
 use Rattle.cov_commands.specs.declared.status.Status.{Status}
@@ -15,8 +16,8 @@ module _ (task : SourceTask) (file : List ℕ) where
   -- the status that the bytes of a file come to; `Known` is what is known of the tree
   pub data ComesOf (Known : List ℕ → File → Type 0) (bytes : List ℕ) : Status → Type 0 where
     long : source_limits.bytes < length bytes → ComesOf Known bytes status.Limit
-    refused : length bytes ≤ source_limits.bytes → IsNoSource task bytes → ComesOf Known bytes status.Refused
-    ended : {tree : File} → Takes task bytes tree → Known bytes tree → ComesOf Known bytes (status_of_end (answer_of task file bytes tree).end)
+    refused : length bytes ≤ source_limits.bytes → IsNoSource bytes → ComesOf Known bytes status.Refused
+    ended : {tree : File} → Accepted bytes tree → Known bytes tree → ComesOf Known bytes (status_of_end (answer_of task file bytes tree).end)
 
   -- the status that what is held comes to
   abbrev pub Fits : (List ℕ → File → Type 0) → Option (List ℕ) → Status → Type 0
@@ -34,14 +35,14 @@ module _ (task : SourceTask) (file : List ℕ) where
   one_of_bytes : (bytes : List ℕ) (s t : Status) → ComesOf HasOnly bytes s → ComesOf Any bytes t → s ≡ t
   one_of_bytes bytes s t (long longer) (long also) = refl
   one_of_bytes bytes s t (long longer) (refused within never) = absurd (omega arith)
-  one_of_bytes bytes s t (long longer) (ended accepted any) = let within = accepted.source.within in absurd (omega arith)
+  one_of_bytes bytes s t (long longer) (ended accepted any) = let within = accepted.within in absurd (omega arith)
   one_of_bytes bytes s t (refused within never) (long longer) = absurd (omega arith)
   one_of_bytes bytes s t (refused within never) (refused also again) = refl
   one_of_bytes bytes s t (refused within never) (ended {tree = tree} accepted any) = absurd (never tree accepted)
-  one_of_bytes bytes s t (ended accepted only) (long longer) = let within = accepted.source.within in absurd (omega arith)
+  one_of_bytes bytes s t (ended accepted only) (long longer) = let within = accepted.within in absurd (omega arith)
   one_of_bytes bytes s t (ended {tree = tree} accepted only) (refused within never) = absurd (never tree accepted)
   one_of_bytes bytes s t (ended accepted only) (ended {tree = other} also any) =
-      ap (λ tree. status_of_end (answer_of task file bytes tree).end) (sym (only other also.source.reads))
+      ap (λ tree. status_of_end (answer_of task file bytes tree).end) (sym (only other also.reads))
 
   one_status : (held : Option (List ℕ)) (s t : Status) → Fits HasOnly held s → Fits Any held t → s ≡ t
   one_status None s t here there = here ∙ sym there
@@ -54,12 +55,12 @@ module _ (task : SourceTask) (file : List ℕ) where
       pub fits : {there : Option (List ℕ)} (s : Status) → held file ≡ there → Fits Known there s → Fits Known (held file) s
       fits s holds is = subst (λ f. Fits Known f s) (sym holds) is
 
-      ends_fit : (s : Status) → ((bytes : List ℕ) (tree : File) → Takes task bytes tree → Known bytes tree) → Ends s task file (Some held) → Fits Known (held file) s
+      ends_fit : (s : Status) → ((bytes : List ℕ) (tree : File) → Accepted bytes tree → Known bytes tree) → Ends s task file (Some held) → Fits Known (held file) s
       ends_fit s known e =
           let is = e.accepted in
           fits s is.held (subst (ComesOf Known e.bytes) e.ends (ended is.accepted (known e.bytes e.tree is.accepted)))
 
-      due_fits : (s : Status) → (PrintsAll s → (bytes : List ℕ) (tree : File) → Takes task bytes tree → Known bytes tree) →
+      due_fits : (s : Status) → (PrintsAll s → (bytes : List ℕ) (tree : File) → Accepted bytes tree → Known bytes tree) →
           IsDue s task file (Some held) → Fits Known (held file) s ⊎ GivesWay s
       due_fits status.Ok known due = inl (ends_fit status.Ok (known tt) due)
       due_fits status.Threw known due = inl (ends_fit status.Threw (known tt) due)

@@ -25,7 +25,6 @@ pub data Message : Type 0 where
   LeftOut : (path : List ℕ) → (place : Pos) → (what : Unsupported) → Message
   TooDeep : (path : List ℕ) → (place : Pos) → Message
   Broken : (path : List ℕ) → (fault : ScopeFault) → Message
-  NotRun : (path : List ℕ) → (place : Pos) → Message
   NotUtf8 : (path : List ℕ) → (at : ℕ) → Message
   ReadFailed : (path : List ℕ) → Message
   WriteFailed : Message
@@ -46,7 +45,6 @@ message_of (complaint.Syntax path place) = Syntax path.now place
 message_of (complaint.Unsupported path place form) = LeftOut path.now place form
 message_of (complaint.TooDeep path place) = TooDeep path.now place
 message_of (complaint.Broken path fault) = Broken path.now fault
-message_of (complaint.NotRun path place) = NotRun path.now place
 message_of (complaint.NotUtf8 path at) = NotUtf8 path.now at
 message_of (complaint.ReadFailed path) = ReadFailed path.now
 message_of complaint.WriteFailed = WriteFailed
@@ -132,7 +130,6 @@ text (Syntax path place) = refused_text path place (codes "syntax")
 text (LeftOut path place what) = refused_text path place (codes "unsupported " ++ form_text what)
 text (TooDeep path place) = refused_text path place (codes "too deep")
 text (Broken path fault) = refused_text path fault.at (rule_text fault.kind)
-text (NotRun path place) = refused_text path place (codes "unsupported not run yet")
 text (NotUtf8 path at) = codes "Refused: " ++ path ++ codes ": not UTF-8 at byte " ++ decimal at
 text (ReadFailed path) = codes "Read failed: " ++ path
 text WriteFailed = codes "Write failed"

@@ -18,7 +18,6 @@ use Rattle.js_scopes.specs.Checks.{first_fault}
 use Rattle.js_scopes.specs.declared.fault.ScopeFault.{ScopeFault}
 use Rattle.js_meaning.specs.declared.outcome.End.{End}
 use Rattle.js_meaning.specs.declared.outcome.End.TheVariants as outcome
-use Rattle.js_meaning.specs.Unsaid as unsaid
 use Rattle.js_meaning.specs.World.{PlainRun}
 use Rattle.cov_base.specs.Store.{Held}
 use Rattle.cov_base.specs.Sink.{after_more, TakesPrefix}
@@ -36,18 +35,6 @@ use Rattle.cov_commands.specs.declared.status.Status.TheVariants as status
 -- where the store tells what it holds, this is what it holds at the path
 abbrev pub Holds : Option Held → List ℕ → Option (List ℕ) → Type 0
 Holds told path found = IfSome told (λ at. at path ≡ found)
-
--- ---- what a task takes
-
--- the first statement of a tree that a task doesn't run yet: `maps` runs none
-abbrev pub not_run_by : SourceTask → File → Option Pos
-not_run_by Maps tree = None
-not_run_by (Exec turns) tree = unsaid.not_run tree
-
--- the bytes are a source of this tree, which the task takes
-pub record Takes (task : SourceTask) (bytes : List ℕ) (tree : File) : Type 0 where
-  pub source : Accepted bytes tree
-  pub runs : not_run_by task tree ≡ None
 
 -- ---- what is answered
 
@@ -86,22 +73,22 @@ pub record IsTooLong (file : List ℕ) (told : Option Held) : Type 0 where
   pub held : Holds told file (Some bytes)
   pub longer : source_limits.bytes < length bytes
 
--- the file is within the limit, and no source that the task takes
-pub record IsRefused (task : SourceTask) (file : List ℕ) (told : Option Held) (bytes : List ℕ) : Type 0 where
+-- the file is within the limit, and no source
+pub record IsRefused (file : List ℕ) (told : Option Held) (bytes : List ℕ) : Type 0 where
   pub held : Holds told file (Some bytes)
   pub within : length bytes ≤ source_limits.bytes
-  pub no_source : (tree : File) → Takes task bytes tree → ⊥
+  pub no_source : (tree : File) → Accepted bytes tree → ⊥
 
--- the file is a source that the task takes, read to this tree
-pub record IsAccepted (task : SourceTask) (file : List ℕ) (told : Option Held) (bytes : List ℕ) (tree : File) : Type 0 where
+-- the file is a source of this tree
+pub record IsAccepted (file : List ℕ) (told : Option Held) (bytes : List ℕ) (tree : File) : Type 0 where
   pub held : Holds told file (Some bytes)
-  pub accepted : Takes task bytes tree
+  pub accepted : Accepted bytes tree
 
 -- the file is a source, and the answer ends with this status
 pub record Ends (result : Status) (task : SourceTask) (file : List ℕ) (told : Option Held) : Type 0 where
   pub bytes : List ℕ
   pub tree : File
-  pub accepted : IsAccepted task file told bytes tree
+  pub accepted : IsAccepted file told bytes tree
   pub ends : status_of_end (answer_of task file bytes tree).end ≡ result
 
 -- the cause of each status; memory may be wanting at any point
@@ -109,10 +96,10 @@ abbrev pub IsDue : Status → SourceTask → List ℕ → Option Held → Type 0
 IsDue status.Ok task file told = Ends status.Ok task file told
 IsDue status.Threw task file told = Ends status.Threw task file told
 IsDue status.Usage task file told = ⊥
-IsDue status.Refused task file told = (bytes : List ℕ) × IsRefused task file told bytes
+IsDue status.Refused task file told = (bytes : List ℕ) × IsRefused file told bytes
 IsDue status.BadInput task file told = ⊥
 IsDue status.ReadFault task file told = Unit {0}
-IsDue status.WriteFault task file told = (bytes : List ℕ) × (tree : File) × IsAccepted task file told bytes tree
+IsDue status.WriteFault task file told = (bytes : List ℕ) × (tree : File) × IsAccepted file told bytes tree
 IsDue status.Range task file told = Ends status.Range task file told
 IsDue status.Going task file told = Ends status.Going task file told
 IsDue status.Memory task file told = Unit {0}
@@ -124,14 +111,14 @@ IsDue status.NoFile task file told = Holds told file None
 
 -- the output that is defined: of a source that of its answer, else nothing
 pub data IsOutput (task : SourceTask) (file : List ℕ) (told : Option Held) : List ℕ → Type 0 where
-  accepted : {bytes : List ℕ} {tree : File} → IsAccepted task file told bytes tree → IsOutput task file told (answer_of task file bytes tree).output
-  none : ((bytes : List ℕ) (tree : File) → IsAccepted task file told bytes tree → ⊥) → IsOutput task file told []
+  accepted : {bytes : List ℕ} {tree : File} → IsAccepted file told bytes tree → IsOutput task file told (answer_of task file bytes tree).output
+  none : ((bytes : List ℕ) (tree : File) → IsAccepted file told bytes tree → ⊥) → IsOutput task file told []
 
 -- nothing was printed, or a prefix of the output of a source: of the one that is held where the store tells, and else of some
 -- content that the file could have
 pub data PrintsPrefix (task : SourceTask) (file : List ℕ) (told : Option Held) (before after : Option (List ℕ)) : Type 0 where
   nothing : after ≡ before → PrintsPrefix task file told before after
-  some : {bytes : List ℕ} {tree : File} → IsAccepted task file told bytes tree → TakesPrefix before after (answer_of task file bytes tree).output →
+  some : {bytes : List ℕ} {tree : File} → IsAccepted file told bytes tree → TakesPrefix before after (answer_of task file bytes tree).output →
       PrintsPrefix task file told before after
 
 -- the output of an answer which ends with the status was printed whole
@@ -143,16 +130,14 @@ pub record PrintsOutput (result : Status) (task : SourceTask) (file : List ℕ) 
 
 -- why a file is refused, and where: it isn't UTF-8 from a byte on; no token that stands at a place can follow those before it, and
 -- none of them begins a form that the language leaves out; the token at a place begins one; those before it begin more levels than a
--- source may have; an early rule is broken there, the first that the tree breaks; or it is a source, and a statement there isn't run yet,
--- which is the first of the tree
-pub data IsRefusal (task : SourceTask) (path bytes : List ℕ) : said.Message → Type 0 where
-  not_utf8 : (IsUtf8 bytes → ⊥) → IsRefusal task path bytes (said.NotUtf8 path (utf8_valid_len bytes))
-  syntax : {at : ℕ} → IsUtf8 bytes → NoTree bytes at → Supported bytes at → IsRefusal task path bytes (said.Syntax path (position bytes at))
-  left_out : {at : ℕ} {form : Unsupported} → IsUtf8 bytes → LeftOut bytes at form → IsRefusal task path bytes (said.LeftOut path (position bytes at) form)
-  too_deep : {at : ℕ} → IsUtf8 bytes → TooHigh bytes at source_limits.height → IsRefusal task path bytes (said.TooDeep path (position bytes at))
+-- source may have; or an early rule is broken there, the first that the tree breaks
+pub data IsRefusal (path bytes : List ℕ) : said.Message → Type 0 where
+  not_utf8 : (IsUtf8 bytes → ⊥) → IsRefusal path bytes (said.NotUtf8 path (utf8_valid_len bytes))
+  syntax : {at : ℕ} → IsUtf8 bytes → NoTree bytes at → Supported bytes at → IsRefusal path bytes (said.Syntax path (position bytes at))
+  left_out : {at : ℕ} {form : Unsupported} → IsUtf8 bytes → LeftOut bytes at form → IsRefusal path bytes (said.LeftOut path (position bytes at) form)
+  too_deep : {at : ℕ} → IsUtf8 bytes → TooHigh bytes at source_limits.height → IsRefusal path bytes (said.TooDeep path (position bytes at))
   broken : {tree : File} {fault : ScopeFault} → IsUtf8 bytes → Reads bytes tree → height_file tree ≤ source_limits.height →
-      first_fault false tree ≡ Some fault → IsRefusal task path bytes (said.Broken path fault)
-  not_run : {tree : File} {place : Pos} → Accepted bytes tree → not_run_by task tree ≡ Some place → IsRefusal task path bytes (said.NotRun path place)
+      first_fault false tree ≡ Some fault → IsRefusal path bytes (said.Broken path fault)
 
 -- the steps that a task allows: `maps` runs nothing
 abbrev pub turns_of : SourceTask → ℕ
@@ -176,7 +161,7 @@ abbrev pub IsMessage : Status → SourceTask → List ℕ → Option Held → sa
 IsMessage status.Ok task file told message = ⊥
 IsMessage status.Threw task file told message = SaysEnd status.Threw task file told message
 IsMessage status.Usage task file told message = ⊥
-IsMessage status.Refused task file told message = (bytes : List ℕ) × IsRefused task file told bytes × IsRefusal task file bytes message
+IsMessage status.Refused task file told message = (bytes : List ℕ) × IsRefused file told bytes × IsRefusal file bytes message
 IsMessage status.BadInput task file told message = ⊥
 IsMessage status.ReadFault task file told message = message ≡ said.ReadFailed file
 IsMessage status.WriteFault task file told message = message ≡ said.WriteFailed

@@ -27,7 +27,6 @@ status_of (said.Syntax path place) = Refused
 status_of (said.LeftOut path place what) = Refused
 status_of (said.TooDeep path place) = Refused
 status_of (said.Broken path fault) = Refused
-status_of (said.NotRun path place) = Refused
 status_of (said.NotUtf8 path at) = Refused
 status_of (said.ReadFailed path) = ReadFault
 status_of said.WriteFailed = WriteFault

@@ -23,7 +23,6 @@ fn status_of(complaint: &Complaint<'_>) -> Status
         }
         | Complaint::TooDeep { path: _, place: _ }
         | Complaint::Broken { path: _, fault: _ }
-        | Complaint::NotRun { path: _, place: _ }
         | Complaint::NotUtf8 { path: _, at: _ } => Status::Refused,
         Complaint::ReadFailed { path: _ } => Status::ReadFault,
         Complaint::WriteFailed => Status::WriteFault,

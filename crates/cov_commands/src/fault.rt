@@ -25,8 +25,6 @@ pub(crate) enum Fault {
     TooDeep { at: Pos },
     /// An early rule is broken.
     Broken { fault: ScopeFault },
-    /// The statement here isn't run yet.
-    NotRun { at: Pos },
     /// The answer couldn't be written.
     WriteFailed,
     /// Want of memory.
@@ -54,7 +52,6 @@ impl Fault {
             },
             Fault::TooDeep { at } => Complaint::TooDeep { path, place: at },
             Fault::Broken { fault } => Complaint::Broken { path, fault },
-            Fault::NotRun { at } => Complaint::NotRun { path, place: at },
             Fault::WriteFailed => Complaint::WriteFailed,
             Fault::OutOfMemory => Complaint::OutOfMemory,
         }

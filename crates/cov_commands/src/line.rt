@@ -38,11 +38,6 @@ pub enum Complaint<'a> {
         path: &'a str,
         fault: ScopeFault,
     },
-    /// The file at this path has a statement here that isn't run yet.
-    NotRun {
-        path: &'a str,
-        place: Pos,
-    },
     /// The file at this path isn't UTF-8: the fault begins at this byte, counted from 0.
     NotUtf8 {
         path: &'a str,
@@ -104,9 +99,6 @@ pub fn line(alloc: Global, complaint: &Complaint<'_>) -> Result<Vec<u8>, Memory>
         }
         Complaint::TooDeep { path, place } => refused_line(alloc, path, *place, "too deep"),
         Complaint::Broken { path, fault } => broken_line(alloc, path, *fault),
-        Complaint::NotRun { path, place } => {
-            refused_line(alloc, path, *place, "unsupported not run yet")
-        }
         Complaint::NotUtf8 { path, at } => not_utf8_line(alloc, path, *at),
         Complaint::ReadFailed { path } => {
             Ok(format!(in alloc; "Read failed: {path}\n")?.into_bytes())

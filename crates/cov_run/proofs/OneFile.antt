@@ -4,27 +4,14 @@ use Rattle.std.specs.Option.{option_map, unwrap_or}
 use Rattle.std.proofs.lemmas.Slice.Eq.{bytes_eq-Decides}
 use Rattle.js_tree.specs.Plain.{File}
 use Rattle.js_meaning.specs.declared.outcome.End.{End}
-use Rattle.js_meaning.specs.Language.{is_said_file}
-use Rattle.js_meaning.specs.Program.{Source, Sources, uncounted, file_at}
+use Rattle.js_meaning.specs.Program.{uncounted, file_at}
 use Rattle.js_meaning.specs.World.{meaning, plainly}
-use Rattle.js_machine.specs.Whole.{Whole, AreSaid, Begins, Goes, EndsAs, output_of}
+use Rattle.js_machine.specs.Whole.{Whole, Begins, Goes, EndsAs, output_of}
 use Rattle.cov_run.specs.Exec.{one_file, run_of}
 
 module _ (path : List ℕ) (tree : File) where
   pub first_file : file_at (one_file path tree) path ≡ Some 0
   first_file = rw ((bytes_eq-Decides path path).1 refl) refl
-
-  source_or : Option Source → Source
-  source_or None = record { path = path; tree = tree; counted = false }
-  source_or (Some source) = source
-
-  pub are_said : (p : Sources) → p ≡ one_file path tree → is_said_file tree ≡ true → AreSaid p
-  unfolding source_or
-  are_said p is said = subst AreSaid (sym is) (record { each = by })
-    where
-      by : (file : ℕ) (source : Source) → slice_get (one_file path tree).files file ≡ Some source → is_said_file source.tree ≡ true
-      by zero source at = ap (λ o. is_said_file (source_or o).tree) (sym at) ∙ said
-      by (suc file) source at = absurd cc
 
   module _ (turns : ℕ) (old new : Whole) (last : End)
       (begins : Begins (one_file path tree) path old) (goes : Goes old last new) (given : new.given ≡ old.given + turns) where

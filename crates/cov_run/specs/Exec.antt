@@ -1,6 +1,7 @@
 -- What a run of one file prints, and how it ends.
 use Rattle.std.specs.Prelude.{ℕ, false, List, [], ◌∷◌}
-use Rattle.js_tree.specs.Plain.{File, MakeFile, no_stmt}
+use Rattle.js_tree.specs.Plain.{File}
+use Rattle.js_prelude.specs.Prelude.{prelude_tree}
 use Rattle.js_meaning.specs.Program.{Sources}
 use Rattle.js_meaning.specs.World.{meaning, PlainRun, plainly}
 
@@ -8,7 +9,7 @@ use Rattle.js_meaning.specs.World.{meaning, PlainRun, plainly}
 abbrev pub one_file : List ℕ → File → Sources
 one_file path tree = record {
   files = record { path = path; tree = tree; counted = false } ∷ [];
-  prelude = MakeFile no_stmt [];
+  prelude = prelude_tree;
 }
 
 -- its run with so many steps: its end, and the store that it leaves

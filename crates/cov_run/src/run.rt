@@ -1,13 +1,13 @@
-ghost use Rattle.std.specs.Prelude.{◌≡◌, true, IfOk};
+ghost use Rattle.std.specs.Prelude.{◌≡◌, IfOk};
 ghost use Rattle.js_tree.specs.Tree.{plain_file};
-ghost use Rattle.js_meaning.specs.Language.{is_said_file};
 ghost use Rattle.js_meaning.specs.Program.{sources_of};
 ghost use Rattle.js_machine.specs.Whole.{Begins};
 ghost use Rattle.cov_run.specs.Exec.{one_file, run_of};
 
 use items::{Items, Memory, Text};
-use js_machine::{Machine, MachineFault, prelude};
+use js_machine::{Machine, MachineFault};
 use js_meaning::{End, Program, ProgramFile};
+use js_prelude::prelude;
 use js_scopes::Checked;
 use std::alloc::{AllocError, Global};
 
@@ -22,7 +22,6 @@ pub struct Ran {
 
 /// A machine before the source at a path, by itself and not counted. Want of memory is the only error.
 pub fn start(alloc: Global, path: &str, tree: Checked) -> Result<Machine, Memory>
-    requires said { is_said_file (plain_file tree) ≡ true }
     ensures { IfOk result (λ machine. Begins (one_file path.now (plain_file tree)) path.now machine) }
 {
     let program = program_of(alloc, path, tree)?;
@@ -36,7 +35,6 @@ pub fn start(alloc: Global, path: &str, tree: Checked) -> Result<Machine, Memory
 /// Runs the source at a path by itself, not counted, with so many steps. Want of memory is the only
 /// error.
 pub fn exec(alloc: Global, path: &str, tree: Checked, turns: u64) -> Result<Ran, Memory>
-    requires said { is_said_file (plain_file tree) ≡ true }
     ensures end { IfOk result (λ ran. ran.end ≡ (run_of path.now (plain_file tree) turns).end) }
     ensures output { IfOk result (λ ran. ran.output ≡ (run_of path.now (plain_file tree) turns).store.output) }
 {

@@ -11,12 +11,9 @@ use Rattle.std.specs.Str.{bytes_eq}
 use Rattle.std.proofs.lemmas.Cmp.{nat_list_eq_equiv}
 use Rattle.std.proofs.lemmas.Map.Text.{is_eq-slice_cmp}
 use denote.Ref.{Bor}
-use Rattle.js_meaning.specs.Files.{once}
-use Rattle.js_meaning.specs.Meaning.{stands_in}
-
--- the names of a set
-abbrev pub seen : BTreeSet (Bor (List ℕ)) → List (List ℕ)
-seen s = map (λ k. k.now) s.keys
+use Rattle.js_meaning.specs.Scopes.{once, stands_in}
+use Rattle.js_code.specs.private.Seen.{seen}
+use Rattle.js_code.proofs.KindsOfLists.{from_at}
 
 -- a name that is lent
 abbrev name_of : List ℕ → Bor (List ℕ)
@@ -26,7 +23,7 @@ abbrev by_bytes : Bor (List ℕ) → Bor (List ℕ) → Ordering
 by_bytes x y = slice_cmp nat_cmp x.now y.now
 
 -- only which names are there before matters
-once_same : (a b names : List (List ℕ)) → ((q : List ℕ) → stands_in q a ≡ stands_in q b) → once a names ≡ once b names
+pub once_same : (a b names : List (List ℕ)) → ((q : List ℕ) → stands_in q a ≡ stands_in q b) → once a names ≡ once b names
 once_same a b [] h = refl
 once_same a b (x ∷ xs) h = rw (h x, once_same a b xs h, once_same (x ∷ a) (x ∷ b) xs (λ q. ap (λ z. bytes_eq q x || z) (h q))) refl
 
@@ -39,7 +36,7 @@ cond_or true b = refl
 cond_or false b = refl
 
 -- a set has one more name
-added : (s n : BTreeSet (Bor (List ℕ))) (k : Bor (List ℕ)) → Updates by_bytes s n k true → (q : List ℕ) → stands_in q (seen n) ≡ stands_in q (k.now ∷ seen s)
+pub added : (s n : BTreeSet (Bor (List ℕ))) (k : Bor (List ℕ)) → Updates by_bytes s n k true → (q : List ℕ) → stands_in q (seen n) ≡ stands_in q (k.now ∷ seen s)
 added s n k u q =
     sym (keys_stand q n.keys)
     ∙ u.0 (name_of q)
@@ -78,3 +75,19 @@ once_fresh s n k new names i name l e f h w u =
 -- a name goes from what is left to the end of what is kept
 pub one_more : (kept new rest left whole : List (List ℕ)) (name : List ℕ) → new ≡ kept ++ name ∷ [] → name ∷ rest ≡ left → kept ++ left ≡ whole → new ++ rest ≡ whole
 one_more kept new rest left whole name n l h = rw n (append_assoc kept (name ∷ []) rest ∙ ap (λ r. kept ++ r) l ∙ h)
+
+or_over : (a b c : Bool) → ((a || b) || c) ≡ (b || (a || c))
+or_over true true c = refl
+or_over true false c = refl
+or_over false true c = refl
+or_over false false c = refl
+
+-- a name goes from what is left into the set
+pub moves_in : (s n : BTreeSet (Bor (List ℕ))) (k : Bor (List ℕ)) (names : List (List ℕ)) (i : ℕ) (name : List ℕ) → i < length names → name ≡ get_or names i name → k.now ≡ name → Updates by_bytes s n k true →
+    ((q : List ℕ) → (stands_in q (seen s) || stands_in q (drop i names)) ≡ stands_in q names) → (q : List ℕ) → (stands_in q (seen n) || stands_in q (drop (i + 1) names)) ≡ stands_in q names
+moves_in s n k names i name l e f u h q =
+    ap (λ x. x || stands_in q (drop (i + 1) names)) (added s n k u q)
+    ∙ or_over (bytes_eq q k.now) (stands_in q (seen s)) (stands_in q (drop (i + 1) names))
+    ∙ ap (λ x. stands_in q (seen s) || (bytes_eq q x || stands_in q (drop (i + 1) names))) f
+    ∙ ap (λ xs. stands_in q (seen s) || stands_in q xs) (sym (from_at names i name l e))
+    ∙ h q

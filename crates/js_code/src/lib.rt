@@ -3,15 +3,18 @@
 #![tactic(auto)]
 
 mod code;
-mod expressions;
+mod compile;
+mod compiling;
+mod declare;
+mod hoisting;
 mod literal;
 mod names;
 mod node;
 mod once;
-mod push;
-mod statements;
+mod places;
+mod scopes;
 
-pub use code::Code;
-pub use literal::{Numeral, StringValue};
-pub use names::file_names;
-pub use node::Node;
+pub use code::{Code, FileCode};
+pub use literal::{Numeral, StringValue, Word};
+pub use node::{ListKind, Node};
+pub use scopes::{BlockScope, BodyScope, Hoisted, NewName};

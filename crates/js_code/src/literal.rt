@@ -1,5 +1,7 @@
-ghost use Rattle.std.specs.Prelude.{◌≡◌, IfOk};
+ghost use Rattle.std.specs.Prelude.{◌≡◌, ◌++◌, IfOk, OnOk};
+ghost use Rattle.std.specs.Char.Escape.{encode_utf16};
 ghost use Rattle.js_value.specs.Numbers.{literal_number};
+ghost use Rattle.js_value.specs.Functions.{name_units};
 
 use items::{Memory, Text};
 use js_tree::Spelled;
@@ -72,4 +74,74 @@ impl StringValue {
             units: Str::from_vec(string.units.as_slice().to_vec(alloc)?)?,
         })
     }
+}
+
+/// A name with its 16-bit units, which are worked out once. Contracts see it as the name.
+#[derive(Drop)]
+pub struct Word {
+    name: Text,
+    units: Str,
+}
+
+impl Model for Word {
+    ghost use Rattle.std.specs.Prelude.{◌≡◌, List, ℕ};
+    ghost use Rattle.js_value.specs.Functions.{name_units};
+
+    ghost Value = { List ℕ };
+
+    ghost view = { λ word. word.name };
+
+    ghost invariant = { λ word. word.units ≡ name_units word.name };
+}
+
+impl Word {
+    /// The word of this name, or want of memory.
+    pub fn new(alloc: Global, name: &str) -> Result<Word, Memory>
+        ensures { IfOk result (λ word. word ≡ name.now) }
+    {
+        Ok(Word {
+            name: Text::from_str(alloc, name)?,
+            units: units_of(alloc, name)?,
+        })
+    }
+
+    /// The name.
+    pub fn name(&self) -> &Text
+        ensures { result.now ≡ self.now }
+    {
+        &self.name
+    }
+
+    /// Its units.
+    pub fn units(&self) -> &Str
+        ensures { result.now ≡ name_units self.now }
+    {
+        &self.units
+    }
+}
+
+/// The 16-bit units of a name, or want of memory.
+fn units_of(alloc: Global, name: &str) -> Result<Str, Memory>
+    ensures { IfOk result (λ units. units ≡ name_units name.now) }
+{
+    let mut units = Vec::new(alloc);
+    for character in name.chars() {
+        push_units(&mut units, character)?;
+    }
+    Str::from_vec(units)
+}
+
+/// Puts the one or two units of a character at the end.
+fn push_units(units: &mut Vec<u16>, character: char) -> Result<(), Memory>
+    ensures { OnOk result (units.new.items ≡ units.old.items ++ encode_utf16 character) }
+{
+    let code = character as u32;
+    if code < 0x1_0000 {
+        units.push(code as u16)?;
+    } else {
+        let above = code - 0x1_0000;
+        units.push((0xD800 + above / 0x400) as u16)?;
+        units.push((0xDC00 + above % 0x400) as u16)?;
+    }
+    Ok(())
 }

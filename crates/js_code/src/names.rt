@@ -1,32 +1,252 @@
-ghost use Rattle.std.specs.Prelude.{◌≡◌, ◌∷◌, [], ◌++◌, ℕ, Bool, List, Some, codes, true, false, IfOk};
-ghost use Rattle.js_tree.specs.Tree.{plain_file, plain_for_init, plain_for_target, plain_pattern, plain_stmt, plain_stmts};
-ghost use Rattle.js_tree.specs.Linked.{Numbers};
-ghost use Rattle.js_code.specs.Code.{numbered};
-ghost use Rattle.js_meaning.specs.Files.{once};
-ghost use Rattle.js_meaning.specs.Language.{is_said_file};
+// The names that parts of a tree declare.
+
+ghost use Rattle.std.specs.Prelude.{◌≡◌, ◌++◌, ℕ, Bool, true, false, List, Some, map, IfOk, OnOk};
+ghost use Rattle.js_tree.specs.Tree.{plain_cases, plain_declarators, plain_for_init, plain_for_target, plain_param, plain_params, plain_pattern, plain_stmt, plain_stmts};
+ghost use Rattle.js_value.specs.Realm.{undefined};
+ghost use Rattle.js_meaning.specs.Scopes as scopes;
+ghost use Rattle.js_meaning.specs.Scopes.{bound_names, cases_stmts, lexical_stmt, lexical_stmts, names_of, once, uninitialized as not_initialized, variable_of};
 ghost use Rattle.js_meaning.specs.VarNames.{declares, is_var, own_var, var_stmts};
 ghost use Rattle.js_walk.specs.Part.{AForInit, AForTarget, APattern, AStmt};
+ghost use Rattle.js_code.specs.Scopes.{told_before};
+ghost use Rattle.js_code.specs.private.Seen.{defaulted};
 
+use crate::compiling::{bound_name, copied};
 use crate::once::once;
-use crate::push::copied;
+use crate::scopes::{BlockScope, BodyScope, Hoisted, NewName};
 use items::{Items, Memory};
-use js_tree::{File, ForInit, ForTarget, Name, Pattern, PatternNode, Stmt, StmtNode, VariableKind};
+use js_tree::{
+    Case, Declarator, ForInit, ForTarget, Name, Param, Pattern, PatternNode, Stmt, StmtNode,
+    VariableKind,
+};
 use js_walk::{Part, Visitor, visit_stmts};
 use std::alloc::Global;
 
-/// The names that a file of the small language declares by `var`, in the order of its text and each
-/// once, without `exports` and `module`, which every file has. Only want of memory is an error.
-#[tactic(auto, using(crate::proofs::SameNames::names_numbered))]
-pub fn file_names(alloc: Global, file: &File) -> Result<Items<Name>, Memory>
-    requires said { is_said_file (plain_file file.now) ≡ true }
-    ensures { IfOk result (λ names. (k : Numbers) → names ≡ once (codes "exports" ∷ codes "module" ∷ []) (var_stmts (numbered (plain_stmts file.now.body) k))) }
+/// What a block begins with that has these statements, and these functions among them.
+pub fn block_scope(
+    alloc: Global,
+    stmts: &[Stmt],
+    functions: Items<Hoisted>,
+) -> Result<BlockScope, Memory>
+    ensures { IfOk result (λ scope. scope ≡ record {
+      names = map (variable_of undefined) (names_of functions) ++ lexical_stmts (plain_stmts stmts.now);
+      functions = functions;
+    }) }
+{
+    let mut names = Items::new(alloc);
+    push_variables(alloc, functions.as_slice(), &mut names)?;
+    push_lexical(alloc, stmts, &mut names)?;
+    Ok(BlockScope { names, functions })
+}
+
+/// What the clauses of a `switch` begin with, where these functions are among them.
+pub fn case_scope(
+    alloc: Global,
+    cases: &[Case],
+    functions: Items<Hoisted>,
+) -> Result<BlockScope, Memory>
+    ensures { IfOk result (λ scope. scope ≡ record {
+      names = map (variable_of undefined) (names_of functions) ++ lexical_stmts (cases_stmts (plain_cases cases.now));
+      functions = functions;
+    }) }
+{
+    let mut names = Items::new(alloc);
+    push_variables(alloc, functions.as_slice(), &mut names)?;
+    for case in cases {
+        push_lexical(alloc, case.statements.as_slice(), &mut names)?;
+    }
+    Ok(BlockScope { names, functions })
+}
+
+/// What a body begins with that has these names of parameters, these statements, and these functions among them.
+pub fn body_scope(
+    alloc: Global,
+    apart: bool,
+    params: Items<Name>,
+    stmts: &[Stmt],
+    functions: Items<Hoisted>,
+) -> Result<BodyScope, Memory>
+    ensures { IfOk result (λ scope. scope ≡ record {
+      params = params;
+      apart = apart;
+      variables = once (told_before apart params) (var_stmts (plain_stmts stmts.now) ++ names_of functions);
+      lexical = lexical_stmts (plain_stmts stmts.now);
+      functions = functions;
+    }) }
+{
+    let mut names = var_names(alloc, stmts)?;
+    push_names(alloc, functions.as_slice(), &mut names)?;
+    let before: &[Name] = if apart { &[] } else { params.as_slice() };
+    let variables = once(alloc, before, names.as_slice())?;
+    let mut lexical = Items::new(alloc);
+    push_lexical(alloc, stmts, &mut lexical)?;
+    Ok(BodyScope {
+        params,
+        apart,
+        variables,
+        lexical,
+        functions,
+    })
+}
+
+/// What the body of a function begins with.
+pub fn code_scope(
+    alloc: Global,
+    params: &[Param],
+    stmts: &[Stmt],
+    functions: Items<Hoisted>,
+) -> Result<BodyScope, Memory>
+    ensures { IfOk result (λ scope. scope ≡ record {
+      params = scopes.param_names (plain_params params.now);
+      apart = scopes.has_defaults (plain_params params.now);
+      variables = once (told_before (scopes.has_defaults (plain_params params.now)) (scopes.param_names (plain_params params.now)))
+          (var_stmts (plain_stmts stmts.now) ++ names_of functions);
+      lexical = lexical_stmts (plain_stmts stmts.now);
+      functions = functions;
+    }) }
+{
+    let names = param_names(alloc, params)?;
+    body_scope(alloc, has_defaults(params), names, stmts, functions)
+}
+
+/// The names of parameters.
+fn param_names(alloc: Global, params: &[Param]) -> Result<Items<Name>, Memory>
+    ensures { IfOk result (λ names. names ≡ scopes.param_names (plain_params params.now)) }
+{
+    let mut names = Items::new(alloc);
+    for param in params {
+        names.push(bound_name(alloc, &param.pattern)?)?;
+    }
+    Ok(names)
+}
+
+/// Whether some parameter has a default.
+#[tactic(auto, using(crate::proofs::Told::defaults_more))]
+fn has_defaults(params: &[Param]) -> bool
+    ensures { result ≡ scopes.has_defaults (plain_params params.now) }
+{
+    for param in params {
+        if has_default(param) {
+            return true;
+        }
+    }
+    false
+}
+
+/// How many parameters stand before the first with a default.
+#[tactic(auto, using(crate::proofs::Told::expected_more))]
+pub fn expected_arguments(params: &[Param]) -> usize
+    ensures { result ≡ scopes.expected_arguments (plain_params params.now) }
+{
+    for index in 0..params.len() {
+        if has_default(&params[index]) {
+            return index;
+        }
+    }
+    params.len()
+}
+
+/// Whether a parameter has a default.
+#[tactic(auto, using(js_tree::proofs::Equations::tree_rules))]
+fn has_default(param: &Param) -> bool
+    ensures { result ≡ defaulted (plain_param param.now) }
+{
+    match &param.default {
+        Some(_) => true,
+        None => false,
+    }
+}
+
+/// Puts the names of some functions at the end, as variables.
+fn push_variables(
+    alloc: Global,
+    functions: &[Hoisted],
+    names: &mut Items<NewName>,
+) -> Result<(), Memory>
+    ensures { OnOk result (names.new ≡ names.old ++ map (variable_of undefined) (names_of functions.now)) }
+{
+    for function in functions {
+        let name = copied(alloc, function.name().name())?;
+        names.push(NewName::variable(name))?;
+    }
+    Ok(())
+}
+
+/// Puts the names of some functions at the end.
+fn push_names(alloc: Global, functions: &[Hoisted], names: &mut Items<Name>) -> Result<(), Memory>
+    ensures { OnOk result (names.new ≡ names.old ++ names_of functions.now) }
+{
+    for function in functions {
+        names.push(copied(alloc, function.name().name())?)?;
+    }
+    Ok(())
+}
+
+/// Puts the names of `let` and `const` of a list of statements at the end.
+fn push_lexical(alloc: Global, stmts: &[Stmt], names: &mut Items<NewName>) -> Result<(), Memory>
+    ensures { OnOk result (names.new ≡ names.old ++ lexical_stmts (plain_stmts stmts.now)) }
+{
+    for stmt in stmts {
+        push_lexical_of(alloc, stmt, names)?;
+    }
+    Ok(())
+}
+
+/// Puts the names of `let` and `const` that a statement declares at the end.
+#[tactic(auto, using(js_tree::proofs::Equations::tree_rules))]
+fn push_lexical_of(alloc: Global, stmt: &Stmt, names: &mut Items<NewName>) -> Result<(), Memory>
+    ensures { OnOk result (names.new ≡ names.old ++ lexical_stmt (plain_stmt stmt.now)) }
+{
+    match &stmt.node {
+        StmtNode::VariableDeclaration(kind, declarators) => {
+            lexical_names(alloc, *kind, declarators.as_slice(), names)
+        }
+        _ => Ok(()),
+    }
+}
+
+/// Puts the names that a declaration declares in its scope at the end.
+pub fn lexical_names(
+    alloc: Global,
+    kind: VariableKind,
+    declarators: &[Declarator],
+    names: &mut Items<NewName>,
+) -> Result<(), Memory>
+    ensures { OnOk result (names.new ≡ names.old ++ scopes.lexical_names kind (bound_names (plain_declarators declarators.now))) }
+{
+    match kind {
+        VariableKind::Var => Ok(()),
+        VariableKind::Let => push_uninitialized(alloc, false, declarators, names),
+        VariableKind::Const => push_uninitialized(alloc, true, declarators, names),
+    }
+}
+
+/// Puts the names of declarators at the end, without values.
+fn push_uninitialized(
+    alloc: Global,
+    constant: bool,
+    declarators: &[Declarator],
+    names: &mut Items<NewName>,
+) -> Result<(), Memory>
+    ensures { OnOk result (names.new ≡ names.old ++ map (not_initialized constant) (bound_names (plain_declarators declarators.now))) }
+{
+    for declarator in declarators {
+        let name = bound_name(alloc, &declarator.pattern)?;
+        names.push(NewName::uninitialized(name, constant))?;
+    }
+    Ok(())
+}
+
+/// The names that statements declare by `var`, in the order of the text.
+#[tactic(auto, using(js_meaning::proofs::MetNames::met_all))]
+fn var_names(alloc: Global, stmts: &[Stmt]) -> Result<Items<Name>, Memory>
+    ensures { IfOk result (λ names. names ≡ var_stmts (plain_stmts stmts.now)) }
 {
     let mut collector = Collector {
         alloc,
         names: Items::new(alloc),
     };
-    visit_stmts(&mut collector, &false, file.body.as_slice())?;
-    once(alloc, collector.names.as_slice())
+    visit_stmts(&mut collector, &false, stmts)?;
+    Ok(collector.names)
 }
 
 /// What a walk collects.

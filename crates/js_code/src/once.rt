@@ -1,19 +1,18 @@
-ghost use Rattle.std.specs.Prelude.{◌≡◌, ◌∷◌, [], codes, IfOk};
-ghost use Rattle.js_meaning.specs.Files.{once};
+ghost use Rattle.std.specs.Prelude.{◌≡◌, ℕ, List, IfOk};
+ghost use Rattle.js_meaning.specs.Scopes.{once, stands_in};
+ghost use Rattle.js_code.specs.private.Seen.{seen};
 
-use crate::push::copied;
+use crate::compiling::copied;
 use items::{Items, Memory};
 use js_tree::Name;
 use std::alloc::Global;
 use std::collections::BTreeSet;
 
-/// The names, each once, without those that every file has.
-pub fn once(alloc: Global, names: &[Name]) -> Result<Items<Name>, Memory>
-    ensures { IfOk result (λ kept. kept ≡ once (codes "exports" ∷ codes "module" ∷ []) names.now) }
+/// The names, each once, without those before.
+pub fn once(alloc: Global, before: &[Name], names: &[Name]) -> Result<Items<Name>, Memory>
+    ensures { IfOk result (λ kept. kept ≡ once before.now names.now) }
 {
-    let mut seen = BTreeSet::new(alloc);
-    seen.insert("exports")?;
-    seen.insert("module")?;
+    let mut seen = seen_of(alloc, before)?;
     let mut kept = Items::new(alloc);
     for name in names {
         if seen.insert(name.as_str())? {
@@ -21,4 +20,15 @@ pub fn once(alloc: Global, names: &[Name]) -> Result<Items<Name>, Memory>
         }
     }
     Ok(kept)
+}
+
+/// The set of some names.
+fn seen_of<'a>(alloc: Global, names: &'a [Name]) -> Result<BTreeSet<&'a str>, Memory>
+    ensures { IfOk result (λ set. (q : List ℕ) → stands_in q (seen set) ≡ stands_in q names.now) }
+{
+    let mut seen = BTreeSet::new(alloc);
+    for name in names {
+        seen.insert(name.as_str())?;
+    }
+    Ok(seen)
 }

@@ -24,12 +24,12 @@ write_in-to object (Some p) f key v barred is = refl
 write_in-to object None f key v barred is =
     ap (λ b. if b || object.frozen then ReadOnly else write_of_new object key) (is refl) ∙ write_in-absent object f key
 
-pub write_in-of : (h : Heap) (o : ℕ) (key : List ℕ) (v : Value) (barred : Bool) → (own h o key ≡ None → barred ≡ bars (found o h (object_at h o).prototype key)) → write_in (object_at h o) barred key v ≡ write_of h o key v
+pub write_in-of : (h : Heap) (o : ℕ) (key : List ℕ) (v : Value) (barred : Bool) → (own h o key ≡ None → barred ≡ bars (found o h.objects (object_at h o).prototype key)) → write_in (object_at h o) barred key v ≡ write_of h o key v
 write_in-of h o key v barred is =
-    write_in-to (object_at h o) (own h o key) (found o h (object_at h o).prototype key) key v barred is
+    write_in-to (object_at h o) (own h o key) (found o h.objects (object_at h o).prototype key) key v barred is
 
 -- an object of nothing takes any write
 pub set_answer-none : (h : Heap) (o : ℕ) (key : List ℕ) (v : Value) → object_at h o ≡ no_object → set_answer h o key v ≡ Done
 set_answer-none h o key v is =
-    ap (λ r. set_by (write_to r (own_of r key) (found o h r.prototype key) key v)) is
-    ∙ ap (λ f. set_by (write_to no_object None f key v)) (found-none h o key)
+    ap (λ r. set_by (write_to r (own_of r key) (found o h.objects r.prototype key) key v)) is
+    ∙ ap (λ f. set_by (write_to no_object None f key v)) (found-none h.objects o key)

@@ -64,6 +64,19 @@ fn index_of(alloc: Global, bindings: &[Binding]) -> Result<Box<IndexMap<String, 
     Ok(index)
 }
 
+/// The index of these names, where they are more than a few.
+fn index_of_many(
+    alloc: Global,
+    bindings: &[Binding],
+) -> Result<Option<Box<IndexMap<String, usize>>>, Memory>
+    ensures { IfOk result (λ made. ForSome made (λ i. IsIndexOf (get_by_text i.value) (map (λ b. b.name) bindings.now))) }
+{
+    if bindings.len() <= FEW {
+        return Ok(None);
+    }
+    index_of(alloc, bindings).map(Some)
+}
+
 impl Bindings {
     ghost use Rattle.std.specs.Prelude.{[], ◌∷◌, ◌++◌, None, OnOk, OnErr};
     ghost use Rattle.js_heap.specs.Environment.{plain_bindings, plain_assign};
@@ -78,6 +91,14 @@ impl Bindings {
             items: Vec::new(alloc),
             index: None,
         }
+    }
+
+    /// These names.
+    pub fn of(alloc: Global, items: Vec<Binding>) -> Result<Bindings, Memory>
+        ensures { IfOk result (λ made. made.items.items ≡ items.items) }
+    {
+        let index = index_of_many(alloc, items.as_slice())?;
+        Ok(Bindings { items, index })
     }
 
     /// The first place of this name.

@@ -56,11 +56,12 @@ impl Drop for Heap {
 }
 
 impl Heap {
-    ghost use Rattle.std.specs.Prelude.{◌≡◌, [], IfOk, OnOk, OnErr, None, option_map, length};
+    ghost use Rattle.std.specs.Prelude.{◌≡◌, ◌-◌, ◌^◌, ◌&&◌, [], ◌∷◌, ◌++◌, IfOk, IfSome, OnOk, OnErr, Some, None, map, option_map, length, nat_lt, pos, slice_get, if◌then◌else◌};
     ghost use Rattle.std.specs.Option.{option_copied};
-    ghost use Rattle.js_value.specs.Objects.{object_at, kind_of, next_object, new_object, new_array, own, found, get, keys, define, freeze, elements_of, with_elements, append, cut, set, set_answer, delete, delete_answer};
+    ghost use Rattle.js_value.specs.Numbers.{decimal_text};
+    ghost use Rattle.js_value.specs.Objects.{object_at, kind_of, is_array, next_object, new_object, new_array, own, found, get, has_property, inherits, keys, define, freeze, elements_of, with_elements, append, cut, set, set_answer, delete, delete_answer};
     ghost use Rattle.js_value.specs.Texts.{own_of_text, keys_of_text, get_of_text, delete_of_text};
-    ghost use Rattle.js_value.specs.Environments.{environment_at, place_of, next_environment, new_environment, declare, lookup, value_of, init, assign, assign_answer};
+    ghost use Rattle.js_value.specs.Environments.{environment_at, place_of, next_environment, new_environment, copy_environment, declare, lookup, value_of, init, assign, assign_answer, init_name, assign_name, name_answer};
     ghost use Rattle.js_heap.specs.Object.{plain_kind, plain_set, plain_delete, property_with};
     ghost use Rattle.js_heap.specs.Environment.{plain_binding, plain_cell, plain_assign};
     ghost use Rattle.js_value.specs.Realm.{empty_heap};
@@ -129,6 +130,33 @@ impl Heap {
         ensures { result.now ≡ elements_of (heap_of self.now) object.index }
     {
         self.record(object).elements.as_slice()
+    }
+
+    /// The element of an array at an index, lent: the property of the index's key, without the key. None where the object is
+    /// no array or has no such element, or the number is no index.
+    pub fn element(&self, object: Object, index: u64) -> Option<&Value>
+        ensures element { option_copied result ≡ (if is_array (kind_of (heap_of self.now) object.index) && nat_lt index (2 ^ 32 - 1)
+            then slice_get (elements_of (heap_of self.now) object.index) index else None) }
+        ensures property { IfSome result (λ value. get (heap_of self.now) object.index (decimal_text (pos index)) ≡ Some value.now) }
+    {
+        if !self.is_array(object) || index >= 0xFFFF_FFFF {
+            return None;
+        }
+        self.element_at(object, index)
+    }
+
+    /// The element at a place, lent.
+    fn element_at(&self, object: Object, place: u64) -> Option<&Value>
+        ensures { option_copied result ≡ slice_get (elements_of (heap_of self.now) object.index) place }
+    {
+        self.elements(object).get(place as usize)
+    }
+
+    /// Whether the object is an array.
+    fn is_array(&self, object: Object) -> bool
+        ensures { result ≡ is_array (kind_of (heap_of self.now) object.index) }
+    {
+        matches!(self.kind(object), ObjectKind::Array)
     }
 
     /// Puts more elements after those of an array. On want of memory nothing changes.
@@ -275,6 +303,30 @@ impl Heap {
         Some(value)
     }
 
+    /// Whether the object has a property of this name, its own or along its prototypes (7.3.12).
+    pub fn has(&self, object: Object, name: &Str) -> bool
+        ensures { result ≡ has_property (heap_of self.now) object.index name.now }
+    {
+        self.get(object, name).is_some()
+    }
+
+    /// Whether the object inherits from another (7.3.21, 6).
+    pub fn inherits(&self, object: Object, other: Object) -> bool
+        ensures { result ≡ inherits (heap_of self.now) object.index other.index }
+    {
+        let mut chain = self.proto(object);
+        for _ in 0..object.index() {
+            let Some(at) = chain else {
+                return false;
+            };
+            if at.index() == other.index() {
+                return true;
+            }
+            chain = self.proto(at);
+        }
+        false
+    }
+
     /// The property of this name that a text has where it is looked into, its own, or else one of
     /// what texts inherit from (6.2.5.5). Want of memory is for a text of one unit.
     pub fn get_of_text(
@@ -325,6 +377,34 @@ impl Heap {
         let made = Env::at(self.environments.len() as u64);
         self.environments
             .push(Environment::new(self.alloc, parent))?;
+        Ok(made)
+    }
+
+    /// Makes an environment of these names inside another one, or inside none: all are declared at once, in their
+    /// order. On want of memory nothing changes.
+    pub fn scope(&mut self, parent: Option<Env>, names: Items<Binding>) -> Result<Env, Memory>
+        ensures ok { OnOk result (heap_of self.new ≡ record (heap_of self.old) {
+          environments = (heap_of self.old).environments ++ record { outer = option_map (λ outer. outer.index) parent; bindings = map plain_binding names } ∷ [];
+        }) }
+        ensures environment { IfOk result (λ made. made.index ≡ next_environment (heap_of self.old)) }
+        ensures err { OnErr result (heap_of self.new ≡ heap_of self.old) }
+    {
+        let made = Env::at(self.environments.len() as u64);
+        let environment = Environment::of(self.alloc, parent, names)?;
+        self.environments.push(environment)?;
+        Ok(made)
+    }
+
+    /// Makes an environment with the names and values of another, within the same (14.7.4.4). On want
+    /// of memory nothing changes.
+    pub fn copy_env(&mut self, env: Env) -> Result<Env, Memory>
+        ensures ok { OnOk result (heap_of self.new ≡ copy_environment env.index (heap_of self.old)) }
+        ensures environment { IfOk result (λ made. made.index ≡ next_environment (heap_of self.old)) }
+        ensures err { OnErr result (heap_of self.new ≡ heap_of self.old) }
+    {
+        let copy = self.environment(env).copy(self.alloc)?;
+        let made = Env::at(self.environments.len() as u64);
+        self.environments.push(copy)?;
         Ok(made)
     }
 
@@ -427,10 +507,42 @@ impl Heap {
         }
     }
 
+    /// Gives the name its first value where it is, which is told (9.1.1.1.4).
+    pub fn init_name(&mut self, env: Env, name: &Name, value: Value) -> Option<Cell>
+        ensures cell { option_map plain_cell result ≡ lookup (heap_of self.old) env.index name.now }
+        ensures after { heap_of self.new ≡ init_name env.index name.now value (heap_of self.old) }
+    {
+        match self.lookup(env, name) {
+            Some(cell) => {
+                self.init(cell, value);
+                Some(cell)
+            }
+            None => {
+                drop(value);
+                None
+            }
+        }
+    }
+
+    /// Gives the name the value where it is, if it is initialized and not constant (9.1.1.1.5): no answer where it
+    /// isn't there.
+    pub fn assign_name(&mut self, env: Env, name: &Name, value: Value) -> Option<Assign>
+        ensures answer { option_map plain_assign result ≡ name_answer (heap_of self.old) env.index name.now }
+        ensures after { heap_of self.new ≡ assign_name env.index name.now value (heap_of self.old) }
+    {
+        match self.lookup(env, name) {
+            Some(cell) => Some(self.assign(cell, value)),
+            None => {
+                drop(value);
+                None
+            }
+        }
+    }
+
     /// Whether the object, where it has no property of this name, inherits one that may not be written.
     fn bars(&self, object: Object, name: &Str) -> bool
         ensures { own (heap_of self.now) object.index name.now ≡ None → result
-            ≡ bars (found object.index (heap_of self.now)
+            ≡ bars (found object.index (heap_of self.now).objects
             (object_at (heap_of self.now) object.index).prototype name.now) }
     {
         if self.own(object, name).is_some() {
@@ -446,7 +558,7 @@ impl Heap {
     /// whether it may be written.
     fn inherited(&self, object: Object, name: &Str) -> Option<(&Value, bool)>
         ensures { option_map (λ f. (f.0.now, f.1)) result ≡ option_map seen_of
-            (found object.index (heap_of self.now)
+            (found object.index (heap_of self.now).objects
             (object_at (heap_of self.now) object.index).prototype name.now) }
     {
         let mut chain = self.proto(object);

@@ -14,7 +14,7 @@ mod texts;
 mod write;
 
 pub use delete::Delete;
-pub use environment::{Assign, Cell, Env};
+pub use environment::{Assign, Binding, Cell, Env};
 pub use heap::Heap;
 pub use object::{Flags, ObjectKind};
 pub use texts::delete_of_text;

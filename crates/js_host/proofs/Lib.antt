@@ -1,1 +1,2 @@
+mod IterationLemmas
 mod NativeLemmas

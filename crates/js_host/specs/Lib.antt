@@ -1,2 +1,4 @@
+pub mod Halts
+pub mod Iteration
 pub mod Native
 pub mod private

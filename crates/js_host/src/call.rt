@@ -5,7 +5,7 @@ ghost use Rattle.js_value.specs.OnObjects.{value_at};
 ghost use Rattle.js_heap.specs.Heap.{heap_of};
 ghost use Rattle.js_data.specs.Does.{Does};
 ghost use Rattle.js_host.specs.Native.{plain_native};
-ghost use Rattle.js_host.specs.private.Stopping.{row_seen};
+ghost use Rattle.js_host.specs.private.Row.{row_seen};
 
 use crate::complaints::{error_of, message_of};
 use crate::constructors::of_constructor;
@@ -65,6 +65,13 @@ fn done_of(
         Some(function) => done_by(alloc, heap, function, constructing, this, arguments),
         None => Err(Halt::Throw(Complaint::NotAFunction)),
     }
+}
+
+/// The built-in function of this number, if one has it.
+pub fn built_in(id: u32) -> Option<BuiltIn>
+    ensures { result ≡ spec.built_in id }
+{
+    function_of(&BUILT_INS, id)
 }
 
 /// The function of this number: one of a table, or `require`.

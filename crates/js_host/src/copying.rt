@@ -4,7 +4,7 @@ ghost use Rattle.std.specs.Prelude.{◌≡◌, IfOk, Ok, Err, Some, None};
 ghost use Rattle.js_value.specs.Copying as spec;
 ghost use Rattle.js_heap.specs.Heap.{heap_of};
 ghost use Rattle.js_data.specs.Does.{Does};
-ghost use Rattle.js_host.specs.private.Stopping.{HaltsAs};
+ghost use Rattle.js_host.specs.Halts.{HaltsAs};
 
 use crate::values::is_length_of_array;
 use items::Memory;
@@ -68,7 +68,7 @@ fn enumerable_value(heap: &Heap, object: Object, key: &Str) -> Result<Option<Val
 }
 
 /// Writes a property (7.3.4).
-fn write(heap: &mut Heap, object: Object, key: &Str, value: Value) -> Result<(), Halt>
+pub fn write(heap: &mut Heap, object: Object, key: &Str, value: Value) -> Result<(), Halt>
     ensures { HaltsAs (spec.write object.index key.now value (heap_of heap.old)) (heap_of heap.new) result }
 {
     let value = taken(heap, object, key, value)?;

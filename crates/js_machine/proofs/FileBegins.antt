@@ -1,108 +1,62 @@
 -- A file begins where the machine stands.
-use Rattle.std.proofs.Common.{◌≡◌, ℕ, zero, suc, ◌+◌, true, false, List, [], ◌∷◌, Some, slice_get, refl, sym, ap, ◌∙◌, arith}
-use Rattle.std.specs.Option.{option_map}
-use Rattle.std.proofs.lemmas.Option.{slice_get-map}
-use Rattle.js_tree.specs.Plain.{File, MakeFile, Stmts}
-use Rattle.js_tree.specs.Linked.{Numbers, Unmarked, link_file}
-use Rattle.js_value.specs.State.{Store, Heap}
-use Rattle.js_value.specs.Objects.{next_object}
-use Rattle.js_value.specs.Environments.{next_environment}
-use Rattle.js_value.specs.Realm.{opening, realm}
-use Rattle.js_heap.specs.declared.environment.Env.{Env}
-use Rattle.js_code.specs.declared.node.Node.{Node}
-use Rattle.js_code.specs.Code.{reader, numbered, ReadsStmts}
-use Rattle.js_meaning.specs.Effects.{Comp, handle, exec}
-use Rattle.js_meaning.specs.Language.{is_said_file}
-use Rattle.js_meaning.specs.Program.{Source, Sources, from, link_source, link_sources, uncounted, uncounted_source}
-use Rattle.js_meaning.specs.VarNames.{var_stmts}
-use Rattle.js_meaning.specs.Meaning.{comp_stmts}
-use Rattle.js_meaning.specs.Files.{file_objects, file_environment, begin, after_body, start_source, run_source, inside}
+use Rattle.std.proofs.Common.{◌≡◌, ℕ, suc, ◌+◌, List, [], ◌∷◌, Some, map, position, refl, sym, subst, ap, ◌∙◌, arith}
+use Rattle.std.specs.Str.{bytes_eq}
+use Rattle.js_heap.proofs.Lists.{position-map}
+use Rattle.js_heap.specs.Heap.{heap_of}
+use Rattle.js_code.specs.declared.code.FileCode.{FileCode}
+use Rattle.js_code.specs.Program.{ProgramCode, IsCodeOf}
+use Rattle.js_meaning.specs.Effects.{Entry, Comp, ret, exec}
+use Rattle.js_meaning.specs.Files.{inside, start_file}
+use Rattle.js_meaning.specs.Prelude.{opening}
+use Rattle.js_meaning.specs.Program.{Source, Sources, file_at, link_source, link_sources, uncounted, uncounted_source}
 use Rattle.js_meaning.specs.World.{meaning}
-use Rattle.js_machine.specs.declared.data.Control.TheVariants.{ExecuteAll}
-use Rattle.js_machine.specs.declared.data.Frame.{Frame}
-use Rattle.js_machine.specs.declared.data.Frame.TheVariants.{FileBody}
-use Rattle.js_machine.specs.private.Config.{view_of, plug}
-use Rattle.js_machine.specs.private.Moves.{todo}
-use Rattle.js_machine.specs.private.Opening.{Found, Opens, statements_of}
-use Rattle.js_machine.specs.private.State.{Held, store_of}
-use Rattle.js_machine.specs.Whole.{Whole, AreSaid, Begins, running}
+use Rattle.js_meaning.proofs.Handle.{handle_ret}
+use Rattle.js_machine.specs.declared.state.State.{State}
+use Rattle.js_machine.specs.private.Opening.{Opens}
+use Rattle.js_machine.specs.private.State.{store_in, Becomes}
+use Rattle.js_machine.specs.Whole.{Whole, Begins, running}
+use Rattle.js_machine.proofs.Carried.{carries}
 
--- a machine that has these statements before it
-pub opens : (statements : Stmts) (nodes : List Node) (frames : List Frame) (place : ℕ) (env : Env) (h : Held) → frames ≡ FileBody ∷ [] →
-    ((k : Numbers) → ReadsStmts nodes place (numbered statements k)) → env.index ≡ next_environment opening →
-    ((k : Numbers) → h.heap ≡ file_environment (next_object opening) (var_stmts (numbered statements k)) (file_objects opening)) →
-    h.output ≡ [] →
-    Opens statements (record { code = nodes; here = record { frames = frames; control = ExecuteAll place env; state = h }; given = 0; lost = false })
-opens statements nodes frames place env h waits reads at heap printed = record {
-  todo = λ p k.
-      ap (λ fs. plug (view_of p nodes) fs (comp_stmts p ((reader nodes).stmts place) env.index)) waits
-      ∙ ap (λ xs. handle (comp_stmts p xs env.index) after_body) (reads k).read
-      ∙ ap (λ e. handle (comp_stmts p (numbered statements k) e) after_body) at;
-  heap = heap;
-  printed = printed;
-  given = refl;
-  lost = refl;
+-- linking leaves the paths
+linked_paths : (sources : List Source) (file code : ℕ) → map (λ (s : Source). s.path) (link_sources (map uncounted_source sources) file code) ≡ map (λ (s : Source). s.path) sources
+linked_paths [] file code = refl
+linked_paths (x ∷ xs) file code = ap (λ paths. x.path ∷ paths) (linked_paths xs (suc file) (link_source (uncounted_source x) file code).next.code)
+
+-- the number of a file in the code is that in the program
+pub file_found : (p : Sources) (path : List ℕ) (code : ProgramCode) → IsCodeOf (running p) code →
+    position (λ (f : FileCode). bytes_eq f.path path) code.files ≡ file_at p path
+file_found p path code is =
+    sym (position-map (λ x. bytes_eq x path) (λ (f : FileCode). f.path) code.files)
+    ∙ ap (position (λ x. bytes_eq x path)) (is.paths ∙ linked_paths p.files 0 _)
+    ∙ position-map (λ x. bytes_eq x path) (λ (s : Source). s.path) p.files
+
+pub begins : (p : Sources) (path : List ℕ) (file : ℕ) (code : ProgramCode) (m : Whole) → file_at p path ≡ Some file → IsCodeOf (running p) code →
+    Opens code file m → Begins p path m
+begins p path file code m found is opens = record {
+  follows = record {
+    file = file;
+    found = found;
+    code = subst (IsCodeOf (running p)) (sym opens.code_is) is;
+    began = opening (running p);
+    same = λ more.
+        let none : m.given + more ≡ more = omega (arith, opens.given) in
+        ap (meaning (uncounted p) file) none ∙ opens.same (running p) (carries p code is) (inside (running p)) more;
+  };
+  given = opens.given;
+  printed = opens.printed;
+  lost = opens.lost;
 }
 
--- among linked files a file stands with its functions numbered on from some number
-record LinkedAt (files : List Source) (i : ℕ) (source : Source) : Type 0 where
-  file : ℕ
-  code : ℕ
-  is : slice_get files i ≡ Some (record source { tree = (link_source source file code).tree })
+-- nothing but the heap stands when a program begins
+module _ (p : Sources) (s : State) (heap : heap_of s.heap ≡ (opening p).heap) (output : s.output.items ≡ []) (cache : s.cache.items ≡ [])
+    (requiring : s.requiring.items ≡ []) (starts : s.starts.items ≡ []) where
+  pub opened : store_in (opening p) s ≡ opening p
+  opened = rw (heap, output, cache, requiring, starts) refl
 
-linked_at : (sources : List Source) (file code i : ℕ) (source : Source) → slice_get sources i ≡ Some source →
-    LinkedAt (link_sources sources file code) i source
-linked_at [] file code i source is = absurd cc
-linked_at (x ∷ xs) file code zero source is = record {
-  file = file;
-  code = code;
-  is = ap (option_map (λ (s : Source). record s { tree = (link_source s file code).tree })) is;
-}
-linked_at (x ∷ xs) file code (suc i) source is =
-    let found = linked_at xs (suc file) (link_source x file code).next.code i source is in
-    record { file = found.file; code = found.code; is = found.is }
-
--- the same where none is counted
-linked_uncounted : (p : Sources) (i : ℕ) (source : Source) → slice_get p.files i ≡ Some source →
-    LinkedAt (running p).files i (uncounted_source source)
-linked_uncounted p i source is =
-    linked_at (uncounted p).files 0 (link_file Unmarked p.prelude (from 0)).next.code i (uncounted_source source)
-    (slice_get-map uncounted_source p.files i ∙ ap (option_map uncounted_source) is)
-
-module _ (p : Sources) (path : List ℕ) (source : Source) (m : Whole) (found : Found p path source) (opens : Opens (statements_of source.tree) m) where
-  -- the store when the statements of the file are to begin
-  abbrev began : Store
-  began = begin (uncounted_source source) found.file realm
-
-  by : (at : LinkedAt (running p).files found.file (uncounted_source source)) (tree : File) → source.tree ≡ tree → (more : ℕ) →
-      meaning (uncounted p) found.file (m.given + more)
-      ≡ exec (inside (running p)) more (todo (view_of (running p) m.code) m.here) (store_of began m.here.state)
-  by at (MakeFile statements comments) is more =
-      let q = running p in
-      let k = from at.code in
-      let body : Stmts → Comp = λ xs. handle (comp_stmts q (numbered xs k) (next_environment opening)) after_body in
-      let none : m.given + more ≡ more = omega (arith, opens.given) in
-      ap (meaning (uncounted p) found.file) none
-      ∙ ap (λ file. exec (inside q) more (start_source q file found.file) realm) at.is
-      ∙ ap (λ tree. exec (inside q) more (run_source q (record { path = source.path; tree = (link_file Unmarked tree k).tree; counted = false }) found.file) realm) is
-      ∙ ap (λ xs. exec (inside q) more (body xs) (record began { heap = file_environment (next_object opening) (var_stmts (numbered xs k)) (file_objects opening) })) (sym (ap statements_of is))
-      ∙ ap (λ (h : Heap). exec (inside q) more (body (statements_of source.tree)) (record began { heap = h })) (sym (opens.heap k))
-      ∙ ap (λ (out : List ℕ). exec (inside q) more (body (statements_of source.tree)) (record began { heap = m.here.state.heap; output = out })) (sym opens.printed)
-      ∙ ap (λ c. exec (inside q) more c (store_of began m.here.state)) (sym (opens.todo q k))
-
-  pub begins : Begins p path m
-  begins = record {
-    follows = record {
-      file = found.file;
-      found = found.found;
-      began = began;
-      same = by (linked_uncounted p found.file source found.is) source.tree refl;
-    };
-    given = opens.given;
-    printed = opens.printed;
-    lost = opens.lost;
-  }
-
--- the meaning of the file that was found is said
-pub said_at : (p : Sources) (path : List ℕ) (source : Source) → AreSaid p → Found p path source → is_said_file source.tree ≡ true
-said_at p path source said found = said.each found.file source found.is
+  pub opens_same : (file : ℕ) (c : Comp) (u : State) → Becomes (start_file p file) (store_in (opening p) s) c (store_in (opening p) u) →
+      (inside : Entry → Comp) (n : ℕ) → exec inside n (start_file p file) (opening p) ≡ exec inside n c (store_in (opening p) u)
+  opens_same file c u becomes inside n =
+      ap (exec inside n (start_file p file)) (sym opened)
+      ∙ ap (λ d. exec inside n d (store_in (opening p) s)) (sym (handle_ret (start_file p file)))
+      ∙ becomes.same inside n ret
+      ∙ ap (λ d. exec inside n d (store_in (opening p) u)) (handle_ret c)

@@ -2,14 +2,14 @@
 use Rattle.std.proofs.Common.{◌≡◌, ℕ, suc, ◌+◌, List, [], ◌∷◌, ◌++◌, refl, sym, ap, ◌∙◌, arith}
 use Rattle.js_value.specs.State.{Store}
 use Rattle.js_value.specs.declared.value.Kind.{Kind}
-use Rattle.js_code.specs.Node.{Reader}
 use Rattle.js_meaning.specs.declared.outcome.Completion.{Completion}
 use Rattle.js_meaning.specs.declared.outcome.Outcome.TheVariants.{Stops}
 use Rattle.js_meaning.specs.Effects as E
 use Rattle.js_meaning.specs.Effects.{Comp, ret, refuse, enter, handle, ran, exec}
 use Rattle.js_meaning.proofs.Handle.{handle_again, handle_ret}
 use Rattle.js_machine.specs.declared.data.Frame.{Frame}
-use Rattle.js_machine.specs.private.Config.{View, frame_comp, frame_weight, frames_weight, plug}
+use Rattle.js_machine.specs.private.Config.{View, frame_comp, plug}
+use Rattle.js_machine.specs.private.Weight.{Weights, frame_weight, frames_weight}
 use Rattle.js_machine.specs.private.State.{Becomes}
 
 module _ (t : View) where
@@ -54,6 +54,6 @@ module _ (t : View) where
       exec inside 0 (plug t fs (enter e ret)) s ≡ ran Stops s
   exec_stops fs e inside s = ap (λ c. exec inside 0 c s) (plug_enter fs e ret)
 
-pub frames_weight-push : (t : Reader) (fs : List Frame) (f : Frame) → frames_weight t (fs ++ f ∷ []) ≡ frames_weight t fs + frame_weight t f
+pub frames_weight-push : (t : Weights) (fs : List Frame) (f : Frame) → frames_weight t (fs ++ f ∷ []) ≡ frames_weight t fs + frame_weight t f
 frames_weight-push t [] f = omega arith
 frames_weight-push t (g ∷ fs) f = omega (arith, frames_weight-push t fs f)

@@ -1,11 +1,9 @@
 -- What callers see of the machine.
-use Rattle.std.specs.Prelude.{Bool, false, true, ◌≡◌, ℕ, ◌+◌, List, [], Some, slice_get}
-use Rattle.std.specs.Option.{ForSome}
+use Rattle.std.specs.Prelude.{◌≡◌, ℕ, ◌+◌, Bool, false, List, [], Some}
 use Rattle.js_value.specs.State.{Store}
-use Rattle.js_code.specs.declared.node.Node.{Node}
+use Rattle.js_code.specs.Program.{ProgramCode, IsCodeOf}
 use Rattle.js_meaning.specs.declared.outcome.End.{End}
 use Rattle.js_meaning.specs.Effects.{exec}
-use Rattle.js_meaning.specs.Language.{is_said_file}
 use Rattle.js_meaning.specs.Program.{Sources, linked, uncounted, file_at}
 use Rattle.js_meaning.specs.Files.{inside}
 use Rattle.js_meaning.specs.World.{meaning, PlainRun, plain}
@@ -15,7 +13,7 @@ use Rattle.js_machine.specs.private.State.{store_of}
 
 -- the code, where the machine is in it, how many steps it was given, and whether it wanted memory
 pub record Whole : Type 0 where
-  pub code : List Node
+  pub code : ProgramCode
   pub here : Here
   pub given : ℕ
   pub lost : Bool
@@ -27,18 +25,15 @@ output_of m = m.here.state.output
 abbrev pub running : Sources → Sources
 running p = linked (uncounted p)
 
--- the meaning of each file is said
-pub record AreSaid (p : Sources) : Type 0 where
-  pub each : (file : ℕ) → ForSome (slice_get p.files file) (λ source. is_said_file source.tree ≡ true)
-
 -- the machine has come through the steps that it was given: with any steps more, what it has left to do ends as the file at the
 -- path does with all of them. What its store doesn't have stays as it was when the file began.
 pub record Follows (p : Sources) (path : List ℕ) (m : Whole) : Type 0 where
   pub file : ℕ
   pub found : file_at p path ≡ Some file
+  pub code : IsCodeOf (running p) m.code
   pub began : Store
   pub same : (more : ℕ) → meaning (uncounted p) file (m.given + more)
-      ≡ exec (inside (running p)) more (todo (view_of (running p) m.code) m.here) (store_of began m.here.state)
+      ≡ exec (inside (running p)) more (todo (view_of (running p) m.code.nodes) m.here) (store_of began m.here.state)
 
 -- it stands at the beginning of the file at the path, and has printed nothing
 pub record Begins (p : Sources) (path : List ℕ) (m : Whole) : Type 0 where

@@ -1,7 +1,9 @@
 -- What the contracts of private functions name: no reader has to believe it.
+pub mod Carries
 pub mod Config
 pub mod Moves
 pub mod Opening
 pub mod Runs
+pub mod Scopes
 pub mod State
 pub mod Weight

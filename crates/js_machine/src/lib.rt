@@ -2,16 +2,41 @@
 #![tactic(auto)]
 
 mod advance;
+mod begin;
+mod built_ins;
+mod call_actions;
+mod clauses;
+mod copies;
 mod data;
 mod enter;
+mod expressions;
+mod file_actions;
+mod function_actions;
+mod functions;
+mod lists;
+mod literals;
+mod loop_actions;
+mod loops;
 mod machine;
+mod member_actions;
+mod name_actions;
+mod names;
 mod opening;
+mod operator_actions;
+mod operators;
+mod parts;
+mod pending;
 mod perform;
+mod references;
+mod resume;
 mod run;
+mod scope_actions;
+mod scopes;
 mod settle;
 mod shown;
 mod state;
-mod step;
+mod statements;
+mod steps;
+mod turns;
 
 pub use machine::{Machine, MachineFault};
-pub use opening::prelude;

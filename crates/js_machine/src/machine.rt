@@ -1,21 +1,20 @@
 // The machine as its callers see it.
 
-ghost use Rattle.std.specs.Prelude.{◌≡◌, ◌+◌, ◌<◌, ◌^◌, true, false, None, IfOk, IsErr, OnErr};
-ghost use Rattle.js_tree.specs.Tree.{plain_file, plain_stmts};
-ghost use Rattle.js_meaning.specs.Language.{is_said_file};
+ghost use Rattle.std.specs.Prelude.{◌≡◌, ◌+◌, ◌<◌, ◌^◌, true, None, IfOk, IsErr, OnErr};
 ghost use Rattle.js_meaning.specs.Program.{sources_of, file_at};
 ghost use Rattle.js_machine.specs.private.Opening.{Opens};
-ghost use Rattle.js_machine.specs.Whole.{AreSaid, Begins, Goes, output_of};
+ghost use Rattle.js_machine.specs.Whole.{Begins, Goes, output_of};
 
 use crate::data::{Control, Frame};
-use crate::opening::{file_of, heap_of_file};
+use crate::file_actions::start_file;
+use crate::names::Words;
+use crate::opening::opening;
 use crate::run::run_on;
 use crate::settle::{end_of, rest_control};
 use crate::state::State;
 use items::{Items, Memory};
-use js_code::{Code, file_names};
+use js_code::Code;
 use js_meaning::{Completion, End, Program};
-use js_tree::File;
 use std::alloc::{AllocError, Global};
 use std::marker::Model;
 use std::mem;
@@ -45,6 +44,7 @@ impl From<Memory> for MachineFault {
 pub struct Machine {
     alloc: Global,
     code: Code,
+    words: Words,
     state: State,
     frames: Vec<Frame>,
     control: Control,
@@ -67,6 +67,7 @@ impl Drop for Machine {
         let Machine {
             alloc: _,
             code,
+            words,
             state,
             frames,
             control,
@@ -74,6 +75,7 @@ impl Drop for Machine {
             lost: _,
         } = self;
         drop(code);
+        drop(words);
         drop(state);
         drop(frames);
         drop(control);
@@ -84,36 +86,40 @@ impl Machine {
     /// A machine that stands at the beginning of the file of the program at the path `entry`, or the
     /// fault that there is none.
     pub fn new(alloc: Global, program: &Program, entry: &str) -> Result<Machine, MachineFault>
-        requires said { AreSaid (sources_of program.now) }
         ensures begins { IfOk result (λ made. Begins (sources_of program.now) entry.now made) }
         ensures no_entry { result ≡ Err MachineFault.NoEntry → file_at (sources_of program.now) entry.now ≡ None }
     {
-        let Some(file) = file_of(program, entry) else {
-            return Err(MachineFault::NoEntry);
-        };
-        Ok(Machine::open(alloc, file.tree.file())?)
+        let code = Code::compile(alloc, program)?;
+        match code.file_at(entry) {
+            Some(file) => Ok(Machine::open(alloc, code, file)?),
+            None => {
+                drop(code);
+                Err(MachineFault::NoEntry)
+            }
+        }
     }
 
-    /// A machine that has this file before it, and nothing behind it.
-    fn open(alloc: Global, file: &File) -> Result<Machine, Memory>
-        requires said { is_said_file (plain_file file.now) ≡ true }
-        ensures { IfOk result (λ made. Opens (plain_stmts file.now.body) made) }
+    // A machine that has this file of its code before it, and nothing behind it.
+    fn open(alloc: Global, code: Code, file: usize) -> Result<Machine, Memory>
+        ensures { IfOk result (λ made. Opens code file made) }
     {
-        let mut code = Code::new(alloc);
-        let place = code.compile(alloc, file)?;
-        let names = file_names(alloc, file)?;
-        let (heap, env) = heap_of_file(alloc, names.as_slice())?;
-        let mut frames = Vec::new(alloc);
-        frames.push(Frame::FileBody)?;
+        let words = Words::new(alloc)?;
+        let heap = opening(alloc, &code, &words)?;
+        let mut state = State {
+            heap,
+            output: Vec::new(alloc),
+            cache: Vec::new(alloc),
+            requiring: Vec::new(alloc),
+            starts: Vec::new(alloc),
+        };
+        let control = start_file(alloc, &code, &mut state, file)?;
         Ok(Machine {
             alloc,
             code,
-            state: State {
-                heap,
-                output: Vec::new(alloc),
-            },
-            frames,
-            control: Control::ExecuteAll { place, env },
+            words,
+            state,
+            frames: Vec::new(alloc),
+            control,
             given: 0,
             lost: false,
         })
@@ -138,6 +144,7 @@ impl Machine {
         let rest = run_on(
             self.alloc,
             &self.code,
+            &self.words,
             &mut self.state,
             &mut self.frames,
             control,
@@ -170,6 +177,7 @@ impl Machine {
         let Machine {
             alloc: _,
             code,
+            words,
             state,
             frames,
             control,
@@ -177,10 +185,20 @@ impl Machine {
             lost: _,
         } = self;
         drop(code);
+        drop(words);
         drop(frames);
         drop(control);
-        let State { heap, output } = state;
+        let State {
+            heap,
+            output,
+            cache,
+            requiring,
+            starts,
+        } = state;
         drop(heap);
+        drop(cache);
+        drop(requiring);
+        drop(starts);
         Items::from_vec(output)
     }
 }
@@ -189,7 +207,7 @@ impl Machine {
 fn put(control: &mut Control, next: Control)
     ensures { control.new ≡ next }
 {
-    *control = next;
+    drop(mem::replace(control, next));
 }
 
 // What is next, out of its place.

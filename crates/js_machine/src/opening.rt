@@ -1,114 +1,181 @@
-// The beginning of a program, and of a file.
+// What stands when a program begins: the realm, and the methods of arrays that are written in the language itself.
 
-ghost use Rattle.std.specs.Prelude.{◌≡◌, ◌+◌, ◌∷◌, [], ℕ, List, None, IfOk, OnOk, MatchOption, codes, position};
-ghost use Rattle.std.specs.Str.{bytes_eq};
-ghost use Rattle.js_tree.specs.Plain.{MakeFile, no_stmt};
-ghost use Rattle.js_tree.specs.Tree.{plain_file};
-ghost use Rattle.js_value.specs.Realm.{opening as the_opening};
-ghost use Rattle.js_value.specs.Objects.{next_object};
-ghost use Rattle.js_value.specs.Environments.{declare as declared, next_environment};
+ghost use Rattle.std.specs.Prelude.{◌≡◌, None, IfOk, OnOk};
 ghost use Rattle.js_heap.specs.Heap.{heap_of};
-ghost use Rattle.js_meaning.specs.Files.{declare_all, file_environment, file_objects, once, variable, variables};
-ghost use Rattle.js_meaning.specs.Program.{sources_of, source_of, file_at};
-ghost use Rattle.js_machine.specs.private.Opening.{Found};
+ghost use Rattle.js_code.specs.Code.{reader};
+ghost use Rattle.js_code.specs.Node.{function_of};
+ghost use Rattle.js_code.specs.Part.{as_code, as_expr, as_properties, as_property, as_property_key, as_stmt, as_stmts};
+ghost use Rattle.js_code.specs.Program.{IsCodeOf};
+ghost use Rattle.js_tree.specs.Plain as P;
+ghost use Rattle.js_meaning.specs.Prelude as spec;
+ghost use Rattle.js_meaning.specs.Program.{Sources};
+ghost use Rattle.js_machine.specs.private.Opening.{method_put};
 
-use items::{Items, Memory};
-use js_heap::{Env, Flags, Heap, ObjectKind};
-use js_host::{ascii, global_environment, object_at, realm};
-use js_meaning::{Program, ProgramFile};
-use js_scopes::{Checked, ScopeFault, ScopeFaultKind, check};
-use js_tree::{File, Name};
-use js_value::{Object, Place, Primitive, Value};
-use std::alloc::{AllocError, Global};
+use crate::function_actions::close;
+use crate::lists::list_of;
+use crate::names::{Words, no_units, units_at};
+use crate::parts::Form;
+use items::Memory;
+use js_code::{Code, ListKind, Node};
+use js_heap::{Flags, Heap};
+use js_host::{global_environment, object_at, realm};
+use js_value::{Place, Str, Value};
+use std::alloc::Global;
 
-/// The place of the file at the path among some.
-fn place_of(files: &[ProgramFile], path: &str) -> Option<usize>
-    ensures { result ≡ position (λ file. bytes_eq file.path path.now) files.now }
-{
-    files.iter().position(|file| file.path.as_str() == path)
-}
-
-/// The file of the program at the path.
-pub fn file_of<'a>(program: &'a Program, path: &str) -> Option<&'a ProgramFile>
-    ensures { MatchOption result (file_at (sources_of program.now) path.now ≡ None)
-        (λ file. Found (sources_of program.now) path.now (source_of file.now)) }
-{
-    let files = program.files.as_slice();
-    match place_of(files, path) {
-        Some(place) => Some(&files[place]),
-        None => None,
-    }
-}
-
-/// What a file begins with that declares these names by `var`, each told once: the opening realm with
-/// the file's objects, and its environment.
-pub fn heap_of_file(alloc: Global, names: &[Name]) -> Result<(Heap, Env), Memory>
-    ensures heap { IfOk result (λ made. (declared : List (List ℕ)) → names.now ≡ once (codes "exports" ∷ codes "module" ∷ []) declared →
-        heap_of made.0 ≡ file_environment (next_object the_opening) declared (file_objects the_opening)) }
-    ensures environment { IfOk result (λ made. made.1.index ≡ next_environment the_opening) }
+/// The heap that stands when a program begins.
+pub fn opening(alloc: Global, code: &Code, words: &Words) -> Result<Heap, Memory>
+    ensures { IfOk result (λ heap. (p : Sources) → IsCodeOf p code.now → heap_of heap ≡ (spec.opening p).heap) }
 {
     let mut heap = realm(alloc)?;
-    let (exports, module) = make_objects(alloc, &mut heap)?;
-    let env = heap.env(Some(global_environment()))?;
-    declare(alloc, &mut heap, env, "exports", Value::Object(exports))?;
-    declare(alloc, &mut heap, env, "module", Value::Object(module))?;
-    declare_names(&mut heap, env, names)?;
-    Ok((heap, env))
+    make_statements(alloc, code, words, &mut heap)?;
+    Ok(heap)
 }
 
-/// Makes the objects `exports` and `module` of a file.
-fn make_objects(alloc: Global, heap: &mut Heap) -> Result<(Object, Object), Memory>
-    ensures made { OnOk result (heap_of heap.new ≡ file_objects (heap_of heap.old)) }
-    ensures exports { IfOk result (λ made. made.0.index ≡ next_object (heap_of heap.old)) }
-    ensures module_object { IfOk result (λ made. made.1.index ≡ next_object (heap_of heap.old) + 1) }
+// Makes the methods of the statements of the prelude.
+fn make_statements(alloc: Global, code: &Code, words: &Words, heap: &mut Heap) -> Result<(), Memory>
+    ensures { OnOk result (heap_of heap.new ≡ spec.prelude_stmts (as_stmts (reader code.now.nodes code.now.prelude)) (heap_of heap.old)) }
 {
-    let exports = heap.object(ObjectKind::Plain, Some(object_at(Place::ObjectPrototype)))?;
-    let module = heap.object(ObjectKind::Plain, Some(object_at(Place::ObjectPrototype)))?;
+    let mut list = code.prelude();
+    'each: loop {
+        match list_of(code.node(list), ListKind::Stmts) {
+            Some((first, rest)) => {
+                make_statement(alloc, code, words, heap, first)?;
+                list = rest;
+            }
+            None => return Ok(()),
+        }
+    }
+}
+
+// Makes the methods of an expression statement.
+fn make_statement(
+    alloc: Global,
+    code: &Code,
+    words: &Words,
+    heap: &mut Heap,
+    statement: usize,
+) -> Result<(), Memory>
+    ensures { OnOk result (heap_of heap.new ≡ spec.prelude_stmt (as_stmt (reader code.now.nodes statement)) (heap_of heap.old)) }
+{
+    match code.node(statement) {
+        Node::Expression { expression, .. } => make_literal(alloc, code, words, heap, *expression),
+        _ => Ok(()),
+    }
+}
+
+// Makes the methods of an object literal, parentheses notwithstanding.
+fn make_literal(
+    alloc: Global,
+    code: &Code,
+    words: &Words,
+    heap: &mut Heap,
+    expression: usize,
+) -> Result<(), Memory>
+    ensures { OnOk result (heap_of heap.new ≡ spec.literal_made (as_expr (reader code.now.nodes expression)) (heap_of heap.old)) }
+{
+    let mut place = expression;
+    'each: loop {
+        match code.node(place) {
+            Node::Parenthesized { inner, .. } => place = *inner,
+            Node::ObjectLiteral { properties, .. } => {
+                return make_properties(alloc, code, words, heap, *properties);
+            }
+            _ => return Ok(()),
+        }
+    }
+}
+
+// Makes the methods of a list of properties.
+fn make_properties(
+    alloc: Global,
+    code: &Code,
+    words: &Words,
+    heap: &mut Heap,
+    properties: usize,
+) -> Result<(), Memory>
+    ensures { OnOk result (heap_of heap.new ≡ spec.properties_made (as_properties (reader code.now.nodes properties)) (heap_of heap.old)) }
+{
+    let mut list = properties;
+    'each: loop {
+        match list_of(code.node(list), ListKind::Properties) {
+            Some((first, rest)) => {
+                make_property(alloc, code, words, heap, first)?;
+                list = rest;
+            }
+            None => return Ok(()),
+        }
+    }
+}
+
+// Makes a method of arrays.
+fn make_property(
+    alloc: Global,
+    code: &Code,
+    words: &Words,
+    heap: &mut Heap,
+    property: usize,
+) -> Result<(), Memory>
+    ensures { OnOk result (heap_of heap.new ≡ spec.property_made (as_property (reader code.now.nodes property)) (heap_of heap.old)) }
+{
+    match code.node(property) {
+        Node::Method { key, function, .. } => {
+            make_method(alloc, code, words, heap, *key, *function)
+        }
+        _ => Ok(()),
+    }
+}
+
+// The same, where its key is a name.
+fn make_method(
+    alloc: Global,
+    code: &Code,
+    words: &Words,
+    heap: &mut Heap,
+    key: usize,
+    function: usize,
+) -> Result<(), Memory>
+    ensures { OnOk result (heap_of heap.new
+        ≡ spec.property_made (P.Method None (as_property_key (reader code.now.nodes key)) (function_of (as_code (reader code.now.nodes function)))) (heap_of heap.old)) }
+{
+    match code.node(key) {
+        Node::NameKey { .. } => {
+            let name = units_at(alloc, code, words, key)?;
+            put_method(alloc, code, heap, function, &name)
+        }
+        Node::StringKey { .. } => Ok(()),
+        Node::NumberKey { .. } => Ok(()),
+        Node::ComputedKey { .. } => Ok(()),
+        _ => {
+            let name = no_units(alloc, words)?;
+            put_method(alloc, code, heap, function, &name)
+        }
+    }
+}
+
+// Makes a method of arrays with this name, frozen and not enumerable.
+fn put_method(
+    alloc: Global,
+    code: &Code,
+    heap: &mut Heap,
+    function: usize,
+    name: &Str,
+) -> Result<(), Memory>
+    ensures { OnOk result (heap_of heap.new ≡ method_put name.now (function_of (as_code (reader code.now.nodes function))) (heap_of heap.old)) }
+{
+    let object = close(
+        alloc,
+        code,
+        heap,
+        Form::Method,
+        function,
+        name,
+        global_environment(),
+    )?;
+    heap.freeze(object);
     let flags = Flags {
-        enumerable: true,
+        enumerable: false,
         writable: true,
     };
-    let key = ascii(alloc, b"exports")?;
-    heap.define(module, &key, Value::Object(exports), flags)?;
-    Ok((exports, module))
-}
-
-/// Declares a name of the environment that may be assigned to.
-fn declare(alloc: Global, heap: &mut Heap, env: Env, name: &str, value: Value) -> Result<(), Memory>
-    ensures { OnOk result (heap_of heap.new ≡ declared env.index (variable name.now value) (heap_of heap.old)) }
-{
-    heap.declare(env, &Name::from_str(alloc, name)?, Some(value), false)?;
-    Ok(())
-}
-
-/// Declares names of the environment, each with the value undefined.
-fn declare_names(heap: &mut Heap, env: Env, names: &[Name]) -> Result<(), Memory>
-    ensures { OnOk result (heap_of heap.new ≡ declare_all env.index (variables names.now) (heap_of heap.old)) }
-{
-    for name in names {
-        heap.declare(
-            env,
-            name,
-            Some(Value::Primitive(Primitive::Undefined)),
-            false,
-        )?;
-    }
-    Ok(())
-}
-
-/// The tree of the host's prelude: the empty file so far.
-pub fn prelude(alloc: Global) -> Result<Checked, Memory>
-    ensures { IfOk result (λ checked. plain_file checked ≡ MakeFile no_stmt []) }
-{
-    let file = File {
-        body: Items::new(alloc),
-        comments: Items::new(alloc),
-    };
-    match check(alloc, file) {
-        Ok(checked) => Ok(checked),
-        Err((_, ScopeFault { at: _, kind })) => match kind {
-            ScopeFaultKind::Memory => Err(AllocError),
-            _ => unreachable!(),
-        },
-    }
+    let prototype = object_at(Place::ArrayPrototype);
+    heap.define(prototype, name, Value::Object(object), flags)
 }

@@ -1,229 +1,300 @@
-// What is done to the heap.
+// What is done to the store.
 
-ghost use Rattle.std.specs.Prelude.{◌≡◌, ◌<◌, [], IfOk, OnOk, MatchOption};
-ghost use Rattle.js_value.specs.State.{Store};
-ghost use Rattle.js_value.specs.Objects.{kind_of, next_object};
-ghost use Rattle.js_value.specs.Host as host;
+ghost use Rattle.std.specs.Prelude.{◌≡◌, ◌<◌, ◌+◌, Some, IfOk, OnOk};
+ghost use Rattle.js_tree.specs.Plain as P;
+ghost use Rattle.js_value.specs.Functions.{closed};
+ghost use Rattle.js_value.specs.Host.{error_made, error_of, message_of};
+ghost use Rattle.js_value.specs.Objects.{next_object};
 ghost use Rattle.js_value.specs.Realm.{object as object_of};
-ghost use Rattle.js_code.specs.Code.{node_at};
-ghost use Rattle.js_value.specs.Environments.{lookup as heap_lookup};
 ghost use Rattle.js_heap.specs.Heap.{heap_of};
+ghost use Rattle.js_code.specs.Code.{reader};
+ghost use Rattle.js_code.specs.Node.{arrow_body};
+ghost use Rattle.js_code.specs.Part.{as_code};
+ghost use Rattle.js_code.specs.Scopes.{code_names};
+ghost use Rattle.js_meaning.specs.Files.{in_body};
+ghost use Rattle.js_meaning.specs.Meaning.{comp_concise};
+ghost use Rattle.js_meaning.specs.Scopes.{body_scope, shape_of};
+ghost use Rattle.js_value.specs.State.{Store};
+ghost use Rattle.js_code.specs.Program.{IsCodeOf};
 ghost use Rattle.js_meaning.specs.Program.{Sources};
-ghost use Rattle.js_meaning.specs.Meaning as meaning;
-ghost use Rattle.js_meaning.specs.Meaning.{value_in, call_kind};
-ghost use Rattle.js_machine.specs.private.Config.{View, view_of, name_of, action_comp, action_weight, control_comp, control_weight};
-ghost use Rattle.js_machine.specs.private.State.{store_in, with_heap, Becomes};
-ghost use Rattle.js_code.specs.Node.{Reader};
+ghost use Rattle.js_machine.specs.private.Config.{View, view_of, action_comp, control_comp, form_code, title_in};
+ghost use Rattle.js_machine.specs.private.State.{store_in, Becomes, Turns};
+ghost use Rattle.js_machine.specs.private.Weight.{Weights, place_weight, action_weight, control_weight};
 
-use crate::data::{Action, Control, Entry};
+use crate::call_actions::{call, construct};
+use crate::data::{Action, Control, Task};
+use crate::file_actions::{exports, leave_cache, path_at};
+use crate::function_actions::{close, make_complaint, start_call};
+use crate::loop_actions::{go_through, go_through_items, go_through_keys};
+use crate::member_actions::{define, delete, get, key_value, put_by_key};
+use crate::name_actions::{initialize, read, type_of_name, write};
+use crate::names::{Words, name_at, text_of};
+use crate::operator_actions::{operate, operate_unary};
+use crate::parts::{Form, Gathering, Reference, Title};
+use crate::scope_actions::{
+    catch_name, enter_block, enter_loop, enter_switch, make_anew, own_name,
+};
+use crate::scopes::enter_body;
 use crate::state::State;
 use items::{Items, Memory};
-use js_code::{Code, Node};
-use js_heap::{Assign, Env, Flags, Heap, ObjectKind};
-use js_host::{ascii, error_of, error_prototype, message_of};
+use js_code::{BodyScope, Code, Node};
+use js_heap::{Env, Heap, ObjectKind};
+use js_host::object_at;
 use js_meaning::Completion;
-use js_tree::Name;
-use js_value::{Complaint, ErrorKind, Object, Primitive, Str, Value};
+use js_value::{Complaint, Object, Place, Primitive, Value};
 use std::alloc::Global;
 
-// The value of a name, or the error that there is none.
-fn read(heap: &Heap, name: &Name, env: Env) -> Result<Control, Memory>
-    ensures means { IfOk result (λ control. (t : View) → control_comp t control
-        ≡ value_in (heap_of heap.now) (heap_lookup (heap_of heap.now) env.index name.now)) }
-    ensures less { IfOk result (λ control. (t : Reader) → control_weight t control < 3) }
-{
-    match heap.lookup(env, name) {
-        Some(cell) => match heap.value_of(cell) {
-            Some(value) => Ok(Control::Give(Completion::Normal(value.copy()?))),
-            None => Ok(Control::Do(Action::Throw(Complaint::NotInitialised))),
-        },
-        None => Ok(Control::Do(Action::Throw(Complaint::NotDefined))),
-    }
-}
-
-// A value for a name, or the error that it has no cell for it or may not take it.
-fn write(heap: &mut Heap, name: &Name, env: Env, value: Value) -> Result<Control, Memory>
-    ensures means { IfOk result (λ control. (t : View) (base : Store) →
-        Becomes (meaning.write name.now env.index value) (with_heap base heap.old) (control_comp t control) (with_heap base heap.new)) }
-    ensures less { IfOk result (λ control. (t : Reader) → control_weight t control < 3) }
-{
-    let Some(cell) = heap.lookup(env, name) else {
-        return Ok(Control::Do(Action::Throw(Complaint::NotDefined)));
-    };
-    let given = value.copy()?;
-    match heap.assign(cell, value) {
-        Assign::Done => Ok(Control::Give(Completion::Normal(given))),
-        Assign::Dead => Ok(Control::Do(Action::Throw(Complaint::NotInitialised))),
-        Assign::Constant => Ok(Control::Do(Action::Throw(Complaint::NotAssignable))),
-    }
-}
-
-// A call of an object: what is no function is not callable.
-fn call(heap: &Heap, callee: Object, this: Value, arguments: Items<Value>) -> Control
-    ensures means { (t : View) → control_comp t result ≡ call_kind (kind_of (heap_of heap.now) callee.index) callee.index this arguments }
-    ensures less { (t : Reader) → control_weight t result < 3 }
-{
-    match heap.kind(callee) {
-        ObjectKind::BuiltIn(function) => Control::Enter(Entry::CallBuiltIn {
-            callee,
-            function: *function,
-            this,
-            arguments,
-        }),
-        ObjectKind::Written(code, environment) => Control::Enter(Entry::Call {
-            code: *code,
-            environment: *environment,
-            this,
-            arguments,
-        }),
-        ObjectKind::Plain | ObjectKind::Array | ObjectKind::Error | ObjectKind::RegExp => {
-            Control::Do(Action::Throw(Complaint::NotAFunction))
-        }
-    }
-}
-
-// Makes an error with this message: the object is that of the next number.
-fn make_error(
-    alloc: Global,
-    heap: &mut Heap,
-    kind: ErrorKind,
-    message: Str,
-) -> Result<Object, Memory>
-    ensures made { OnOk result (heap_of heap.new ≡ meaning.make_error kind message (heap_of heap.old)) }
-    ensures object { IfOk result (λ object. object.index ≡ next_object (heap_of heap.old)) }
-{
-    let key = ascii(alloc, b"message")?;
-    let object = heap.object(ObjectKind::Error, Some(error_prototype(kind)))?;
-    let flags = Flags {
-        enumerable: false,
-        writable: true,
-    };
-    heap.define(
-        object,
-        &key,
-        Value::Primitive(Primitive::Text(message)),
-        flags,
-    )?;
-    Ok(object)
-}
-
-// The name of the node at a place, if it has one.
-fn name_at(code: &Code, place: usize) -> Option<&Name>
-    ensures { MatchOption result (name_of (node_at code.now place) ≡ []) (λ name. name.now ≡ name_of (node_at code.now place)) }
-{
-    match code.node(place) {
-        Node::IdentifierReference { loc: _, name } => Some(name),
-        Node::Assignment {
-            loc: _,
-            target_loc: _,
-            name,
-            value: _,
-        } => Some(name),
-        Node::MoreDeclarators {
-            loc: _,
-            name_loc: _,
-            name,
-            initializer: _,
-            rest: _,
-        } => Some(name),
-        _ => None,
-    }
-}
-
-// The value of the name of a node.
-fn read_at(
-    alloc: Global,
-    code: &Code,
-    heap: &Heap,
-    place: usize,
-    env: Env,
-) -> Result<Control, Memory>
-    ensures means { IfOk result (λ control. (t : View) → control_comp t control
-        ≡ value_in (heap_of heap.now) (heap_lookup (heap_of heap.now) env.index (name_of (node_at code.now place)))) }
-    ensures less { IfOk result (λ control. (t : Reader) → control_weight t control < 3) }
-{
-    match name_at(code, place) {
-        Some(name) => read(heap, name, env),
-        None => {
-            let nameless = Name::from_str(alloc, "")?;
-            read(heap, &nameless, env)
-        }
-    }
-}
-
-// A value for the name of a node.
-fn write_at(
-    alloc: Global,
-    code: &Code,
-    heap: &mut Heap,
-    place: usize,
-    env: Env,
-    value: Value,
-) -> Result<Control, Memory>
-    ensures means { IfOk result (λ control. (t : View) (base : Store) →
-        Becomes (meaning.write (name_of (node_at code.now place)) env.index value) (with_heap base heap.old) (control_comp t control) (with_heap base heap.new)) }
-    ensures less { IfOk result (λ control. (t : Reader) → control_weight t control < 3) }
-{
-    match name_at(code, place) {
-        Some(name) => write(heap, name, env, value),
-        None => {
-            let nameless = Name::from_str(alloc, "")?;
-            write(heap, &nameless, env, value)
-        }
-    }
-}
-
-/// Makes an error with this message and throws it.
-pub fn throw_error(
-    alloc: Global,
-    heap: &mut Heap,
-    kind: ErrorKind,
-    message: Str,
-) -> Result<Control, Memory>
-    ensures made { OnOk result (heap_of heap.new ≡ meaning.make_error kind message (heap_of heap.old)) }
-    ensures control { IfOk result (λ control. control ≡ Control.Give (Completion.Throw (object_of (next_object (heap_of heap.old))))) }
-{
-    let object = make_error(alloc, heap, kind, message)?;
-    Ok(Control::Give(Completion::Throw(Value::Object(object))))
-}
-
-// Throws the error of a complaint.
-fn throw(alloc: Global, heap: &mut Heap, complaint: Complaint) -> Result<Control, Memory>
-    ensures made { OnOk result (heap_of heap.new
-        ≡ meaning.make_error (host.error_of complaint) (host.message_of complaint) (heap_of heap.old)) }
-    ensures control { IfOk result (λ control. control ≡ Control.Give (Completion.Throw (object_of (next_object (heap_of heap.old))))) }
-{
-    let message = message_of(alloc, complaint)?;
-    throw_error(alloc, heap, error_of(complaint), message)
-}
-
-/// Does what needs the heap.
+/// Does what needs the store.
 pub fn perform(
     alloc: Global,
     code: &Code,
+    words: &Words,
     state: &mut State,
     action: Action,
 ) -> Result<Control, Memory>
-    ensures becomes { IfOk result (λ control. (p : Sources) (base : Store) →
-        Becomes (action_comp (view_of p code.now) action) (store_in base state.old)
-        (control_comp (view_of p code.now) control) (store_in base state.new)) }
-    ensures less { IfOk result (λ control. (t : Reader) → control_weight t control < action_weight action) }
+    ensures becomes { IfOk result (λ control. (p : Sources) (base : Store) → IsCodeOf p code.now →
+        Becomes (action_comp (view_of p code.now.nodes) action) (store_in base state.old)
+        (control_comp (view_of p code.now.nodes) control) (store_in base state.new)) }
+    ensures less { IfOk result (λ control. control_weight place_weight control < action_weight place_weight action) }
 {
     match action {
-        Action::Read { name, env } => read_at(alloc, code, &state.heap, name, env),
-        Action::Write { name, env, value } => write_at(
+        Action::Read { name, env } => read(&state.heap, name_at(code, words, name), env),
+        Action::Write { name, env, value } => {
+            write(&mut state.heap, name_at(code, words, name), env, value)
+        }
+        Action::Initialize { name, env, value } => {
+            initialize(&mut state.heap, name_at(code, words, name), env, value)
+        }
+        Action::GetMember { base, key } => get(alloc, code, words, &state.heap, &base, key),
+        Action::PutMember { base, key, value } => {
+            put_by_key(alloc, code, words, &mut state.heap, &base, key, value)
+        }
+        Action::Delete(reference) => delete_reference(
             alloc,
             code,
+            words,
             &mut state.heap,
-            name,
-            env,
-            value,
+            reference,
         ),
-        Action::Call {
-            callee,
-            this,
-            arguments,
-        } => Ok(call(&state.heap, callee, this, arguments)),
+        Action::Operate {
+            operator,
+            left,
+            right,
+        } => operate(alloc, &state.heap, operator, &left, &right),
+        Action::OperateUnary { operator, value } => {
+            operate_unary(alloc, &state.heap, operator, &value)
+        }
+        Action::TypeOfName { name, env } => {
+            type_of_name(alloc, &state.heap, name_at(code, words, name), env)
+        }
         Action::Throw(complaint) => throw(alloc, &mut state.heap, complaint),
+        Action::Close {
+            form,
+            function,
+            title,
+            env,
+        } => close_titled(
+            alloc,
+            code,
+            words,
+            &mut state.heap,
+            form,
+            function,
+            title,
+            env,
+        ),
+        Action::MakeRegExp => {
+            let parent = Some(object_at(Place::RegExpPrototype));
+            Ok(give_object(state.heap.object(ObjectKind::RegExp, parent)?))
+        }
+        Action::MakeObject { properties, env } => {
+            let parent = Some(object_at(Place::ObjectPrototype));
+            let object = state.heap.object(ObjectKind::Plain, parent)?;
+            Ok(Control::Begin(Task::DefineAll {
+                properties,
+                env,
+                object,
+            }))
+        }
+        Action::Define { object, key, value } => {
+            let key = text_of(alloc, code, words, key)?;
+            define(&mut state.heap, object, &key, value)
+        }
+        Action::Gathered { gathering, values } => gathered(
+            code,
+            &mut state.heap,
+            gathering,
+            values,
+        ),
+        Action::EnterBlock { block, env } => enter_block(alloc, code, &mut state.heap, block, env),
+        Action::EnterSwitch { cases, value, env } => {
+            enter_switch(alloc, code, &mut state.heap, cases, value, env)
+        }
+        Action::EnterLoop { next, env } => {
+            enter_loop(alloc, code, words, &mut state.heap, next, env)
+        }
+        Action::Anew { init, next, env } => make_anew(code, &mut state.heap, init, next, env),
+        Action::Caught {
+            name,
+            value,
+            block,
+            env,
+        } => {
+            let name = name_at(code, words, name);
+            catch_name(alloc, &mut state.heap, name, value, block, env)
+        }
+        Action::OwnName {
+            name,
+            function,
+            env,
+        } => {
+            let own = name_at(code, words, name);
+            own_name(alloc, &mut state.heap, own, name, function, env)
+        }
+        Action::GoThrough { round, rest } => go_through(alloc, &state.heap, round, rest),
+        Action::GoThroughKeys { round, value } => {
+            go_through_keys(alloc, &state.heap, round, value)
+        }
+        Action::GoThroughItems { round, value } => go_through_items(&state.heap, round, &value),
+        Action::StartCall {
+            this,
+            function,
+            env,
+            arguments,
+        } => {
+            let inner = start_call(alloc, code, &mut state.heap, this, function, env)?;
+            Ok(Control::Begin(Task::BindAll {
+                function,
+                arguments,
+                env: inner,
+            }))
+        }
+        Action::EnterBody { function, env } => {
+            enter_function(alloc, code, &mut state.heap, function, env)
+        }
+        Action::Exports { file } => exports(alloc, state, path_at(code, file)),
+        Action::LeaveCache { file, thrown } => {
+            leave_cache(state, path_at(code, file));
+            Ok(Control::Give(Completion::Throw(thrown)))
+        }
     }
+}
+
+// An object for what waits.
+fn give_object(object: Object) -> Control
+    ensures { result ≡ Control.Give (Completion.Normal (Value.Object object)) }
+{
+    Control::Give(Completion::Normal(Value::Object(object)))
+}
+
+// Makes the function with its code at a place, of this name.
+fn close_titled(
+    alloc: Global,
+    code: &Code,
+    words: &Words,
+    heap: &mut Heap,
+    form: Form,
+    function: usize,
+    title: Title,
+    env: Env,
+) -> Result<Control, Memory>
+    ensures after { OnOk result (heap_of heap.new
+        ≡ closed (shape_of (form_code form (as_code (reader code.now.nodes function)))) (title_in code.now.nodes title) env.index (heap_of heap.old)) }
+    ensures control { IfOk result (λ control. control ≡ Control.Give (Completion.Normal (object_of (next_object (heap_of heap.old))))) }
+{
+    let name = text_of(alloc, code, words, title)?;
+    let object = close(alloc, code, heap, form, function, &name, env)?;
+    Ok(give_object(object))
+}
+
+// Makes the error of a complaint and throws it.
+fn throw(alloc: Global, heap: &mut Heap, complaint: Complaint) -> Result<Control, Memory>
+    ensures after { OnOk result (heap_of heap.new ≡ error_made (error_of complaint) (Some (message_of complaint)) (heap_of heap.old)) }
+    ensures control { IfOk result (λ control. control ≡ Control.Give (Completion.Throw (object_of (next_object (heap_of heap.old))))) }
+{
+    let error = make_complaint(alloc, heap, complaint)?;
+    Ok(Control::Give(Completion::Throw(Value::Object(error))))
+}
+
+// A reference is deleted: a name may not be.
+fn delete_reference(
+    alloc: Global,
+    code: &Code,
+    words: &Words,
+    heap: &mut Heap,
+    reference: Reference,
+) -> Result<Control, Memory>
+    ensures means { IfOk result (λ control. (p : Sources) →
+        Turns (action_comp (view_of p code.now.nodes) (Action.Delete reference)) heap.old (control_comp (view_of p code.now.nodes) control) heap.new) }
+    ensures less { IfOk result (λ control. (w : Weights) → control_weight w control < 2) }
+{
+    match reference {
+        Reference::Name(_) => Ok(Control::Give(Completion::Normal(Value::Primitive(
+            Primitive::Boolean(false),
+        )))),
+        Reference::Member { base, key } => {
+            let key = key_value(alloc, code, words, key)?;
+            delete(alloc, heap, &base, &key)
+        }
+    }
+}
+
+// What is done with the values of a list.
+fn gathered(
+    code: &Code,
+    heap: &mut Heap,
+    gathering: Gathering,
+    values: Items<Value>,
+) -> Result<Control, Memory>
+    ensures means { IfOk result (λ control. (p : Sources) → IsCodeOf p code.now →
+        Turns (action_comp (view_of p code.now.nodes) (Action.Gathered gathering values)) heap.old (control_comp (view_of p code.now.nodes) control) heap.new) }
+    ensures less { IfOk result (λ control. (w : Weights) → control_weight w control < 2) }
+{
+    match gathering {
+        Gathering::Call { callee, this } => Ok(call(heap, callee, this, values)),
+        Gathering::Construct { maker } => Ok(construct(code, heap, maker, values)),
+        Gathering::Array => {
+            let array = heap.array_of(object_at(Place::ArrayPrototype), values)?;
+            Ok(give_object(array))
+        }
+    }
+}
+
+// The names of a function's body are made.
+fn enter_function(
+    alloc: Global,
+    code: &Code,
+    heap: &mut Heap,
+    function: usize,
+    env: Env,
+) -> Result<Control, Memory>
+    ensures means { IfOk result (λ control. (p : Sources) →
+        Turns (action_comp (view_of p code.now.nodes) (Action.EnterBody function env)) heap.old (control_comp (view_of p code.now.nodes) control) heap.new) }
+    ensures less { IfOk result (λ control. (w : Weights) → control_weight w control < w function + 1) }
+{
+    match code.node(function) {
+        Node::Function { scope, .. } => enter_code(alloc, heap, scope, function, env),
+        Node::ArrowExpression { scope, .. } => enter_code(alloc, heap, scope, function, env),
+        Node::ArrowBlock { scope, .. } => enter_code(alloc, heap, scope, function, env),
+        _ => Ok(Control::Begin(Task::Run { function, env })),
+    }
+}
+
+// The same, of this scope.
+fn enter_code(
+    alloc: Global,
+    heap: &mut Heap,
+    scope: &BodyScope,
+    function: usize,
+    env: Env,
+) -> Result<Control, Memory>
+    ensures means { IfOk result (λ control. (t : View) (params : P.Params) (xs : P.Stmts) → scope.now ≡ code_names params xs →
+        Turns (in_body params (body_scope xs) env.index (comp_concise t.program (arrow_body (as_code (t.tree function))))) heap.old (control_comp t control) heap.new) }
+    ensures less { IfOk result (λ control. (w : Weights) → control_weight w control < w function + 1) }
+{
+    let inner = enter_body(alloc, heap, scope, env)?;
+    Ok(Control::Begin(Task::Run {
+        function,
+        env: inner,
+    }))
 }

@@ -2,6 +2,7 @@
 
 ghost use Rattle.std.specs.Prelude.{IfOk};
 ghost use Rattle.js_meaning.specs.Program.{Sources};
+ghost use Rattle.js_machine.specs.private.Carries.{Carries};
 ghost use Rattle.js_machine.specs.private.Config.{view_of};
 ghost use Rattle.js_machine.specs.private.Moves.{here, rest_control};
 ghost use Rattle.js_machine.specs.private.Runs.{Runs};
@@ -9,6 +10,7 @@ ghost use Rattle.js_machine.specs.private.Runs.{Runs};
 use crate::advance::{advance, apply};
 use crate::data::{Control, Frame, Rest};
 use crate::enter::enter;
+use crate::names::Words;
 use crate::state::State;
 use items::Memory;
 use js_code::Code;
@@ -18,17 +20,18 @@ use std::alloc::Global;
 pub fn run_on(
     alloc: Global,
     code: &Code,
+    words: &Words,
     state: &mut State,
     frames: &mut Vec<Frame>,
     control: Control,
     steps: u64,
 ) -> Result<Rest, Memory>
-    ensures { IfOk result (λ rest. (p : Sources) → Runs p (view_of p code.now) steps
+    ensures { IfOk result (λ rest. (p : Sources) → Carries p code.now → Runs p (view_of p code.now.nodes) steps
         (here frames.old.items control state.old) rest (here frames.new.items (rest_control rest) state.new)) }
 {
     let mut at = control;
     for _ in 0..steps {
-        match advance(alloc, code, state, frames, at)? {
+        match advance(alloc, code, words, state, frames, at)? {
             Rest::Asks(entry) => {
                 let step = enter(alloc, code, state, entry)?;
                 at = apply(frames, step)?;
@@ -36,5 +39,5 @@ pub fn run_on(
             rest => return Ok(rest),
         }
     }
-    advance(alloc, code, state, frames, at)
+    advance(alloc, code, words, state, frames, at)
 }

@@ -3,12 +3,14 @@ mod Ends
 mod Grown
 mod Growth
 pub mod Handle
-mod NotRun
+pub mod MetNames
 mod Numbered
 mod Once
+pub mod PointLemmas
 mod Read
-mod SaidLinked
-mod Says
+mod SameCodes
+mod SameScopes
+mod Shaped
 mod Standing
 mod Thin
 mod ThinForms

@@ -4,7 +4,8 @@ use Rattle.std.specs.Prelude.{slice_get}
 use Rattle.std.proofs.lemmas.List.{length_push}
 use Rattle.js_tree.specs.Mark.{Mark}
 use Rattle.js_tree.specs.Marked.{one_if}
-use Rattle.js_tree.specs.Plain.{Expr, Stmt, While}
+use Rattle.js_tree.specs.Plain.{Expr, Stmt, While, DoWhile, For, ForIn, ForOf, ForInit, ForTarget, MaybeExpr}
+use Rattle.js_value.specs.Iterations.{Iteration}
 use Rattle.js_tree.specs.Unmarked.{unmarked_expr, unmarked_stmt}
 use Rattle.js_tree.specs.declared.place.Loc.{Loc}
 use Rattle.js_value.specs.declared.value.Value.{Value}
@@ -15,22 +16,30 @@ use Rattle.js_value.specs.Running.{note}
 use Rattle.js_value.specs.Realm.{undefined}
 use Rattle.js_meaning.specs.declared.outcome.Completion.{Completion}
 use Rattle.js_meaning.specs.declared.outcome.Completion.TheVariants.{Normal, Break, Continue, Return, Throw}
-use Rattle.js_meaning.specs.Effects.{Entry, Call, CallBuiltIn, Turn, Construct, Start, Unsaid, Comp, ret, refuse, act, enter, handle, Ran, exec}
+use Rattle.js_meaning.specs.Effects.{Entry, Call, New, CallBuiltIn, Turn, Pass, Construct, Start, Comp, ret, refuse, act, enter, handle, Ran, exec}
 use Rattle.js_meaning.specs.Program.{Source, Sources}
 use Rattle.js_meaning.specs.Meaning.{with_value}
-use Rattle.js_meaning.specs.Files.{inside, begin, body, run_file}
+use Rattle.js_meaning.specs.Files.{inside, begin, comp_file, run_file}
 use Rattle.js_meaning.specs.Laws.{RunsAlike, is_counted, counted_starts, charged, but_for}
 use Rattle.js_meaning.proofs.Handle.{handle_again}
 use Rattle.js_meaning.proofs.Growth.{Grows, grows_handle, same_list, adds}
 
 -- what a step is for on both sides; a construct and the start of a counted file are none such
 pub data SameEntry : Entry → Entry → Type 0 where
-  unsaids : SameEntry Unsaid Unsaid
   calls : (code env : ℕ) (this : Value) (arguments : List Value) → SameEntry (Call code env this arguments) (Call code env this arguments)
+  news : (maker code env : ℕ) (arguments : List Value) → SameEntry (New maker code env arguments) (New maker code env arguments)
   natives : (callee function : ℕ) (maker : Option ℕ) (this : Value) (arguments : List Value) →
       SameEntry (CallBuiltIn callee function maker this arguments) (CallBuiltIn callee function maker this arguments)
-  while_turns : (loc : Option Loc) (test : Expr) (body : Stmt) (labels : List (List ℕ)) (env : ℕ) →
-      SameEntry (Turn (While loc test body) labels env) (Turn (While loc (unmarked_expr test) (unmarked_stmt body)) labels env)
+  do_turns : (loc : Option Loc) (x : Stmt) (e : Expr) (labels : List (List ℕ)) (env : ℕ) →
+      SameEntry (Turn (DoWhile loc x e) labels env) (Turn (DoWhile loc (unmarked_stmt x) (unmarked_expr e)) labels env)
+  while_turns : (loc : Option Loc) (e : Expr) (x : Stmt) (labels : List (List ℕ)) (env : ℕ) →
+      SameEntry (Turn (While loc e x) labels env) (Turn (While loc (unmarked_expr e) (unmarked_stmt x)) labels env)
+  for_turns : (loc : Option Loc) (start : ForInit) (e f : MaybeExpr) (x : Stmt) (labels : List (List ℕ)) (env : ℕ) →
+      SameEntry (Turn (For loc start e f x) labels env) (Turn (unmarked_stmt (For loc start e f x)) labels env)
+  in_passes : (loc : Option Loc) (target : ForTarget) (e : Expr) (x : Stmt) (labels : List (List ℕ)) (env inner : ℕ) (rest : Iteration) →
+      SameEntry (Pass (ForIn loc target e x) labels env inner rest) (Pass (unmarked_stmt (ForIn loc target e x)) labels env inner rest)
+  of_passes : (loc : Option Loc) (target : ForTarget) (e : Expr) (x : Stmt) (labels : List (List ℕ)) (env inner : ℕ) (rest : Iteration) →
+      SameEntry (Pass (ForOf loc target e x) labels env inner rest) (Pass (unmarked_stmt (ForOf loc target e x)) labels env inner rest)
 
 -- the second computation does what the first does but for its entries of constructs and its starts
 pub data Thin (p : Sources) : Comp → Comp → Type 0 where
@@ -46,7 +55,7 @@ pub data Thin (p : Sources) : Comp → Comp → Type 0 where
   starts : {i : Completion → Comp} {g : Store → Store} {j : Store → Comp} (file : ℕ) (source : Source) →
       slice_get p.files file ≡ Some source → source.counted ≡ true →
       ((log : List Mark) (started : List ℕ) (s : Store) → g (but_for log started s) ≡ but_for log started (begin source file s)) →
-      ((log : List Mark) (started : List ℕ) (s : Store) → Thin p (handle (body p source.tree (next_object s.heap)) i) (j (but_for log started s))) →
+      ((log : List Mark) (started : List ℕ) (s : Store) → Thin p (handle (comp_file p source.tree (next_object s.heap)) i) (j (but_for log started s))) →
       Thin p (enter (Start file) i) (act g j)
 
 module _ (p : Sources) where
@@ -57,7 +66,7 @@ module _ (p : Sources) where
   handle_thin (enters e t) n = enters e (λ c. handle_thin (t c) n)
   handle_thin (marks mark t) n = marks mark (handle_thin t n)
   handle_thin {f = f} {g = g} (starts {i = i} {j = j} file source at counted e t) n = starts file source at counted e (λ log started s.
-      subst (λ c. Thin p c (handle (j (but_for log started s)) g)) (handle_again (body p source.tree (next_object s.heap)) i f)
+      subst (λ c. Thin p c (handle (j (but_for log started s)) g)) (handle_again (comp_file p source.tree (next_object s.heap)) i f)
       (handle_thin (t log started s) n))
 
   pub value_thin : {f g : Value → Comp} → ((v : Value) → Thin p (f v) (g v)) → (c : Completion) → Thin p (with_value f c) (with_value g c)
@@ -138,12 +147,12 @@ module _ (p : Sources) where
         let r = ih (i (Normal undefined)) d t g log started (note mark s) in
         record { m = r.m; spent = let x = r.spent in let y = noted mark s in omega (arith, x, y); alike = r.alike }
     one_more n ih (starts {i = i} {g = f} {j = j} file source at counted e t) g log started s =
-        let r = ih (handle (body p source.tree (next_object s.heap)) i) (j (but_for log started s)) (t log started s) (g (but_for log started s)).1 log started (begin source file s) in
+        let r = ih (handle (comp_file p source.tree (next_object s.heap)) i) (j (but_for log started s)) (t log started s) (g (but_for log started s)).1 log started (begin source file s) in
         subst (λ o. Thinner (suc n) s (exec (inside p) n (handle (run_file p o file) i) s) (act f j) (but_for log started s)) (sym at)
         (record {
           m = r.m;
           spent = let x = r.spent in let y = begun source file s at in let z : one_if source.counted ≡ 1 = ap one_if counted in omega (arith, x, y, z);
-          alike = subst (λ u. RunsAlike (exec (inside p) n (handle (body p source.tree (next_object s.heap)) i) (begin source file s)) (exec (inside q) r.m (j (but_for log started s)) u)) (sym (e log started s)) r.alike;
+          alike = subst (λ u. RunsAlike (exec (inside p) n (handle (comp_file p source.tree (next_object s.heap)) i) (begin source file s)) (exec (inside q) r.m (j (but_for log started s)) u)) (sym (e log started s)) r.alike;
         })
 
     pub thinner : (n : ℕ) → Follows n

@@ -5,11 +5,12 @@ use Rattle.js_tree.specs.Plain as P
 use Rattle.js_tree.specs.Marked.{one_if}
 use Rattle.js_tree.specs.Linked.{Unmarked, link_file}
 use Rattle.js_tree.proofs.Unmarked.{unmarks_linked}
-use Rattle.js_value.specs.Realm.{realm}
-use Rattle.js_meaning.specs.Effects.{Ran}
+use Rattle.js_meaning.specs.Effects.{Ran, exec}
 use Rattle.js_meaning.specs.Program.{Source, Sources, marking, from, link_source, link_sources, linked, unmarked_source, unmarked, uncounted_source, uncounted}
-use Rattle.js_meaning.specs.Files.{start_file}
+use Rattle.js_meaning.specs.Files.{inside, start_file}
 use Rattle.js_meaning.specs.World.{run, meaning}
+use Rattle.js_meaning.specs.Prelude.{opening}
+use Rattle.js_meaning.proofs.SameScopes.{opening_same}
 use Rattle.js_meaning.specs.Laws.{RunsAlike, RunsWithoutCounting, is_counted, counted_starts, charged}
 use Rattle.js_meaning.proofs.Grown.{grows_inside, grows_start}
 use Rattle.js_meaning.proofs.Thin.{thinner}
@@ -27,6 +28,8 @@ sources_unmarked (source ∷ sources) file code code' c =
 program_unmarked : (p : Sources) → linked (uncounted p) ≡ unmarked (linked p)
 program_unmarked p = ap (λ (files : List Source). record { files = files; prelude = (link_file Unmarked p.prelude (from 0)).tree })
     (sources_unmarked p.files 0 (link_file Unmarked p.prelude (from 0)).next.code (link_file Unmarked p.prelude (from 0)).next.code refl)
+    ∙ ap (λ (tree : P.File). record { files = (unmarked (linked p)).files; prelude = tree })
+    (let h = unmarks_linked Unmarked p.prelude (from 0) (from 0) refl in sym h.0)
 
 -- links keep which files are counted
 counted_linked : (sources : List Source) (file code i : ℕ) → is_counted (slice_get (link_sources sources file code) i) ≡ is_counted (slice_get sources i)
@@ -47,10 +50,11 @@ run_less p file n r m e h = let c = charged p r.store in let d : m ≡ n - c = o
 
 pub without_counting : RunsWithoutCounting
 without_counting p file n =
-    let t = thinner (linked p) (unmarked (linked p)) (grows_inside (unmarked (linked p))) (thin_inside (linked p) (unmarked (linked p)))
+    let t = thinner (linked p) (unmarked (linked p)) (grows_inside (unmarked (linked p))) (thin_inside (linked p))
     n (start_file (linked p) file) (start_file (unmarked (linked p)) file) (thin_file (linked p) file)
-    (grows_start (unmarked (linked p)) (slice_get (unmarked (linked p)).files file) file) [] [] realm in
+    (grows_start (unmarked (linked p)) (slice_get (unmarked (linked p)).files file) file) [] [] (opening (linked p)) in
     let same = starts_linked p (meaning p file n).store.starts in
     let spent = t.spent in
     run_less p file n (meaning p file n) t.m (omega (arith, spent, same))
-    (subst (λ q. RunsAlike (meaning p file n) (run q file t.m)) (sym (program_unmarked p)) t.alike)
+    (subst (λ q. RunsAlike (meaning p file n) (run q file t.m)) (sym (program_unmarked p))
+    (subst (λ s. RunsAlike (meaning p file n) (exec (inside (unmarked (linked p))) t.m (start_file (unmarked (linked p)) file) s)) (sym (opening_same (linked p))) t.alike))

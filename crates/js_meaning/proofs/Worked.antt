@@ -4,11 +4,11 @@ use Rattle.std.specs.Fmt.{digits}
 use Rattle.std.specs.Str.{chars}
 use Rattle.js_text.specs.Character.{is_digit}
 use Rattle.js_value.specs.Realm as realm
-use Rattle.js_meaning.specs.Rows.{OneLine, OneBranch, NestedLoop, SecondFile, ComputedMethod, LabelledLoop, ThreeTurns, Refusals, Errors, Orders}
+use Rattle.js_meaning.specs.Rows.{OneLine, OneBranch, NestedLoop, SecondFile, ComputedMethod, LabelledLoop, NotHoisted, DefaultOnce, FallsThrough, Chain}
 
 pub one_line : OneLine
 unfolding lib.Utf8.encode chars is_digit realm.opening realm.each realm.freeze_all realm.rows realm.named_errors realm.named_objects digits
-one_line = record { counted = refl; cut = refl; uncounted = refl; none = refl }
+one_line = record { counted = refl; cut = refl }
 
 pub one_branch : OneBranch
 unfolding chars is_digit realm.opening realm.each realm.freeze_all realm.rows realm.named_errors realm.named_objects digits
@@ -16,7 +16,7 @@ one_branch = record { counted = refl; cut = refl }
 
 pub nested_loop : NestedLoop
 unfolding chars is_digit realm.opening realm.each realm.freeze_all realm.rows realm.named_errors realm.named_objects digits
-nested_loop = record { counted = refl; cut = refl; uncounted = refl }
+nested_loop = record { counted = refl; cut = refl }
 
 pub second_file : SecondFile
 unfolding lib.Utf8.encode chars is_digit realm.opening realm.each realm.freeze_all realm.rows realm.named_errors realm.named_objects digits
@@ -28,18 +28,18 @@ computed_method = record { counted = refl }
 pub labelled_loop : LabelledLoop
 labelled_loop = record { marked = refl }
 
-pub three_turns : ThreeTurns
+pub not_hoisted : NotHoisted
 unfolding lib.Utf8.encode chars is_digit realm.opening realm.each realm.freeze_all realm.rows realm.named_errors realm.named_objects digits
-three_turns = record { all = refl; cut = refl; more = refl }
+not_hoisted = record { counted = refl; cut = refl }
 
-pub refusals : Refusals
+pub default_once : DefaultOnce
 unfolding lib.Utf8.encode chars is_digit realm.opening realm.each realm.freeze_all realm.rows realm.named_errors realm.named_objects digits
-refusals = record { sum = refl; literal = refl; convert = refl }
+default_once = record { counted = refl }
 
-pub errors : Errors
+pub falls_through : FallsThrough
 unfolding lib.Utf8.encode chars is_digit realm.opening realm.each realm.freeze_all realm.rows realm.named_errors realm.named_objects digits
-errors = record { callee = refl; target = refl; constant = refl; function = refl }
+falls_through = record { counted = refl }
 
-pub orders : Orders
+pub chain : Chain
 unfolding lib.Utf8.encode chars is_digit realm.opening realm.each realm.freeze_all realm.rows realm.named_errors realm.named_objects digits
-orders = record { arguments = refl; inner = refl; shadowed = refl; arms = refl }
+chain = record { counted = refl }

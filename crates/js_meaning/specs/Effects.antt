@@ -5,21 +5,23 @@ use Rattle.js_tree.specs.Mark.{Mark}
 use Rattle.js_value.specs.State.{Store}
 use Rattle.js_value.specs.declared.value.Value.{Value}
 use Rattle.js_value.specs.declared.value.Kind.{Kind}
+use Rattle.js_value.specs.Iterations.{Iteration}
 use Rattle.js_meaning.specs.declared.outcome.Completion.{Completion}
 use Rattle.js_meaning.specs.declared.outcome.Outcome.{Outcome}
 use Rattle.js_meaning.specs.declared.outcome.Outcome.TheVariants as outcome
 
--- what a step is charged for: a call of a function of the program; a call of a built-in function, which is this object, with the
--- object that makes its result where it constructs (10.3.2, NewTarget); a turn of a loop with its labels; a construct of a counted
--- file; the start of a counted file
+-- what a step is charged for: a call of a function of the program; a construction by one, which is this object; a call of a
+-- built-in function, which is this object, with the object that makes its result where it constructs (10.3.2, NewTarget); a turn
+-- of a loop with its labels; a turn of one that takes keys or items, in the environment where it took the last one, with those
+-- that are left; a construct of a counted file; the start of a counted file
 pub data Entry : Type 0 where
   Call : (code environment : ℕ) → (this : Value) → (arguments : List Value) → Entry
+  New : (maker code environment : ℕ) → (arguments : List Value) → Entry
   CallBuiltIn : (callee function : ℕ) → (maker : Option ℕ) → (this : Value) → (arguments : List Value) → Entry
   Turn : (loop : Stmt) → (labels : List (List ℕ)) → (environment : ℕ) → Entry
+  Pass : (loop : Stmt) → (labels : List (List ℕ)) → (environment inner : ℕ) → (rest : Iteration) → Entry
   Construct : (mark : Mark) → Entry
   Start : (file : ℕ) → Entry
-  -- a form that is not in the language yet
-  Unsaid : Entry
 
 -- a computation completes, is refused, changes the store and goes on by what it read there before, or asks for a step, and
 -- goes on by how that which the step is for completes

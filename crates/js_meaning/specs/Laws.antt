@@ -1,10 +1,10 @@
 -- What a reader expects of the meaning, as laws.
-use Rattle.std.specs.Prelude.{◌≡◌, ℕ, zero, suc, ◌+◌, ◌-◌, ◌≤◌, length, slice_get, Bool, true, false, List, [], ◌∷◌, ◌++◌, Option, Some, None, if◌then◌else◌}
+use Rattle.std.specs.Prelude.{◌≡◌, ℕ, zero, suc, ◌+◌, ◌-◌, ◌≤◌, length, slice_get, Bool, false, List, [], ◌∷◌, ◌++◌, Option, Some, None, if◌then◌else◌}
 use Rattle.js_tree.specs.declared.place.Loc.{Loc}
 use Rattle.js_tree.specs.Mark.{Mark}
 use Rattle.js_tree.specs.Marked.{one_if}
 use Rattle.js_tree.specs.Codes.{Code, number_of}
-use Rattle.js_tree.specs.Plain.{Expr, Stmt, Stmts, MaybeStmt, more_stmt, While, If, File}
+use Rattle.js_tree.specs.Plain.{Expr, Stmt, Stmts, MaybeStmt, more_stmt, While, If}
 use Rattle.js_value.specs.declared.value.Value.{Value}
 use Rattle.js_value.specs.Operators.{to_boolean}
 use Rattle.js_value.specs.State.{Store}
@@ -14,9 +14,7 @@ use Rattle.js_meaning.specs.declared.outcome.Completion.{Completion}
 use Rattle.js_meaning.specs.declared.outcome.Completion.TheVariants.{Normal, Break, Continue, Return, Throw}
 use Rattle.js_meaning.specs.declared.outcome.Outcome.{Outcome}
 use Rattle.js_meaning.specs.declared.outcome.Outcome.TheVariants.{Completes, Refuses, Stops}
-use Rattle.js_meaning.specs.Effects.{Entry, Call, CallBuiltIn, Turn, Construct, Start, Unsaid, Comp, ret, refuse, act, enter, handle, Ran, exec}
-use Rattle.js_meaning.specs.Language.{is_said_stmt, are_said_stmts, is_said_file}
-use Rattle.js_tree.specs.Linked.{Marking, Numbers, link_file}
+use Rattle.js_meaning.specs.Effects.{Entry, Comp, enter, handle, Ran, exec}
 use Rattle.js_meaning.specs.Program.{Source, Sources, linked, uncounted, function_at}
 use Rattle.js_meaning.specs.Meaning.{entering, comp_expr, comp_stmt, comp_stmts, comp_stmt_if, comp_turn, after_turn}
 use Rattle.js_meaning.specs.Files.{inside}
@@ -150,41 +148,11 @@ abbrev pub RunsWithoutCounting : Type 0
 RunsWithoutCounting = (p : Sources) (file n : ℕ) → (charged p (meaning p file n).store ≤ n)
     × RunsAlike (meaning p file n) (meaning (uncounted p) file (n - charged p (meaning p file n).store))
 
--- The language
-
--- a turn of a loop of the language
-abbrev pub is_said_turn : Stmt → Bool
-is_said_turn (While loc test body) = is_said_stmt (While loc test body)
-is_said_turn _ = false
-
-abbrev pub IsSaidEntry : Entry → Type 0
-IsSaidEntry (Call code env this arguments) = Unit {0}
-IsSaidEntry (CallBuiltIn callee function maker this arguments) = Unit {0}
-IsSaidEntry (Turn x labels env) = is_said_turn x ≡ true
-IsSaidEntry (Construct mark) = Unit {0}
-IsSaidEntry (Start file) = Unit {0}
-IsSaidEntry Unsaid = ⊥
-
--- whatever the store holds, a computation comes to no form that isn't in the language
-abbrev pub Says : Comp → Type 0
-Says (ret c) = Unit {0}
-Says (refuse k) = Unit {0}
-Says (act f j) = (s : Store) → Says (j s)
-Says (enter e j) = IsSaidEntry e × ((c : Completion) → Says (j c))
-
-abbrev pub SaysWhatIsSaid : Type 0
-SaysWhatIsSaid = (p : Sources) (xs : Stmts) (env : ℕ) → are_said_stmts xs ≡ true → Says (comp_stmts p xs env)
-
-abbrev pub SaysTurns : Type 0
-SaysTurns = (p : Sources) (x : Stmt) (labels : List (List ℕ)) (env : ℕ) → is_said_turn x ≡ true → Says (inside p (Turn x labels env))
+-- The program
 
 -- the function that a program has at a number has that number
 abbrev pub NamesFunctions : Type 0
 NamesFunctions = (p : Sources) (n : ℕ) (code : Code) → function_at (linked p) n ≡ Some code → number_of code ≡ n
-
--- a linked file is of the language where the file is
-abbrev pub LinksSaid : Type 0
-LinksSaid = (m : Marking) (tree : File) (k : Numbers) → is_said_file tree ≡ true → is_said_file (link_file m tree k).tree ≡ true
 
 -- the same as it is told: the steps that a run was charged for entries of constructs and for starts of counted files
 abbrev pub charged_in : Sources → World → ℕ

@@ -1,12 +1,14 @@
 pub mod Counted
 pub mod Effects
 pub mod Files
-pub mod Language
 pub mod Laws
 pub mod Meaning
+pub mod Points
+pub mod Prelude
 pub mod Program
 pub mod Rows
+pub mod Scopes
+pub mod Shapes
 pub mod Steps
-pub mod Unsaid
 pub mod VarNames
 pub mod World

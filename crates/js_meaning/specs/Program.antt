@@ -71,7 +71,7 @@ abbrev pub unmarked_source : Source → Source
 unmarked_source source = record { path = source.path; tree = unmarked_file source.tree; counted = false }
 
 abbrev pub unmarked : Sources → Sources
-unmarked p = record p { files = map unmarked_source p.files }
+unmarked p = record { files = map unmarked_source p.files; prelude = unmarked_file p.prelude }
 
 -- the same files, none of them counted
 abbrev pub uncounted_source : Source → Source

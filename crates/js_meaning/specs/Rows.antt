@@ -1,23 +1,24 @@
--- Worked examples: what small programs do with so many steps.
-use Rattle.std.specs.Prelude.{◌≡◌, ℕ, Bool, true, false, List, [], ◌∷◌, ◌++◌, Option, Some, None, codes}
+-- Worked examples: what the marks of small programs are, and which constructs are entered in which order, with how many steps. What a
+-- program prints and how it ends is shown by the rows of `suite_rows`.
+use Rattle.std.specs.Prelude.{◌≡◌, ℕ, true, List, [], ◌∷◌, Option, Some, None, codes}
 use Rattle.js_tree.specs.declared.place.Loc.{Loc}
 use Rattle.js_tree.specs.declared.operators.BinaryOperator.{BinaryOperator}
 use Rattle.js_tree.specs.declared.operators.BinaryOperator.TheVariants as binary
+use Rattle.js_tree.specs.declared.operators.LogicalOperator.TheVariants as logical
 use Rattle.js_tree.specs.declared.operators.AssignmentOperator.TheVariants as assignment
 use Rattle.js_tree.specs.declared.operators.VariableKind.TheVariants as variable
-use Rattle.js_tree.specs.Plain.{Expr, IdentifierReference, NullLiteral, NumericLiteral, StringLiteral, Binary, Assignment, Call, Exprs, no_expr, more_expr}
-use Rattle.js_tree.specs.Plain.{Stmt, Block, VariableDeclaration, Expression, If, Labelled, While, Stmts, no_stmt, more_stmt, none_stmt, some_stmt, File, MakeFile}
-use Rattle.js_tree.specs.Plain.{MakeDeclarator, no_declarator, more_declarator, BindingIdentifier, some_expr}
-use Rattle.js_tree.specs.Plain.{FunctionExpression, ObjectLiteral, Parenthesized, Method, ComputedKey, no_property, more_property, Function, MakeFunction, FunctionBody, MakeFunctionBody, EnteredBody, no_param, EnteredStmt}
-use Rattle.js_tree.specs.Linked.{Marked, link_file, link_stmt}
-use Rattle.js_value.specs.declared.value.Kind.TheVariants as kind
 use Rattle.js_tree.specs.declared.construct.ConstructKind.TheVariants as construct_kind
 use Rattle.js_tree.specs.Mark.{Mark}
-use Rattle.js_meaning.specs.declared.outcome.End.{End}
-use Rattle.js_meaning.specs.declared.outcome.End.TheVariants.{Done, Threw, Range, Going}
+use Rattle.js_tree.specs.Plain.{Expr, IdentifierReference, NumericLiteral, ArrowFunction, NamedMember, Binary, Logical, Assignment, Call, Exprs, no_expr, more_expr, none_expr, some_expr}
+use Rattle.js_tree.specs.Plain.{Stmt, Block, VariableDeclaration, Expression, If, Labelled, While, Switch, Break, Return, Throw, FunctionDeclaration, EnteredStmt, Stmts, no_stmt, more_stmt, none_stmt, File, MakeFile}
+use Rattle.js_tree.specs.Plain.{MakeDeclarator, no_declarator, more_declarator, BindingIdentifier, MakeCase, no_case, more_case}
+use Rattle.js_tree.specs.Plain.{FunctionExpression, ObjectLiteral, Parenthesized, Method, ComputedKey, no_property, more_property, Function, MakeFunction, FunctionBody, MakeFunctionBody, EnteredBody, ExpressionBody, MakeParam, no_param, more_param}
+use Rattle.js_tree.specs.Linked.{Marked, link_file, link_stmt}
 use Rattle.js_tree.specs.Entered.{entered_file, placed}
+use Rattle.js_meaning.specs.declared.outcome.End.{End}
+use Rattle.js_meaning.specs.declared.outcome.End.TheVariants.{Done, Threw, Going}
 use Rattle.js_meaning.specs.Program.{Sources, from}
-use Rattle.js_meaning.specs.World.{world, PlainRun, plain}
+use Rattle.js_meaning.specs.World.{world}
 
 -- Trees
 
@@ -30,10 +31,6 @@ name word = IdentifierReference None word
 
 abbrev pub number : List ℕ → Expr
 number digits = NumericLiteral None digits
-
--- a text of ASCII, in double quotes
-abbrev pub string : List ℕ → Expr
-string units = StringLiteral None (record { spelling = codes "\"" ++ units ++ codes "\""; units = units })
 
 abbrev pub operation : BinaryOperator → Expr → Expr → Expr
 operation operator left right = Binary None operator left right
@@ -55,42 +52,21 @@ abbrev pub statements : List Stmt → Stmts
 statements [] = no_stmt
 statements (x ∷ xs) = more_stmt x (statements xs)
 
-abbrev pub does : Expr → Stmt
-does e = Expression None e
-
--- `var WORD = E;`
-abbrev pub var : List ℕ → Expr → Stmt
-var word e = VariableDeclaration None variable.Var
-    (more_declarator (MakeDeclarator None (BindingIdentifier None word) (some_expr e)) no_declarator)
-
 -- Programs and what they do
 
 abbrev pub file_of : List Stmt → File
-file_of body = MakeFile (statements body) []
+file_of xs = MakeFile (statements xs) []
 
--- the file a.js, counted or not
-abbrev pub program : Bool → List Stmt → Sources
-program counted body = record {
-  files = record { path = codes "a.js"; tree = file_of body; counted = counted } ∷ [];
+-- the file a.js, counted
+abbrev pub program : List Stmt → Sources
+program xs = record {
+  files = record { path = codes "a.js"; tree = file_of xs; counted = true } ∷ [];
   prelude = file_of [];
 }
 
--- the end and the output of a run
-pub record Seen : Type 0 where
-  pub end : End
-  pub output : List ℕ
-
-abbrev pub seen : Option PlainRun → Option Seen
-seen None = None
-seen (Some r) = Some (record { end = r.end; output = r.store.output })
-
--- with so many steps the program, uncounted, ends so, and this is its output
-abbrev pub Runs : List Stmt → ℕ → End → List ℕ → Type 0
-Runs body n end output = seen (plain (program false body) (codes "a.js") n) ≡ Some (record { end = end; output = output })
-
 -- the log of a counted program, whose file is started once
 abbrev pub Counts : List Stmt → ℕ → End → List ℕ → List Mark → Type 0
-Counts body n end output log = world (program true body) (codes "a.js") n
+Counts xs n end output log = world (program xs) (codes "a.js") n
     ≡ Some (record { end = end; output = output; log = log; started = 0 ∷ []; starts = 0 ∷ [] })
 
 -- a statement, and a path of a branch, of the first file
@@ -100,6 +76,10 @@ statement number = record { file = 0; kind = construct_kind.Statement; number = 
 abbrev pub arm : ℕ → ℕ → Mark
 arm number path = record { file = 0; kind = construct_kind.Branch; number = number; path = path }
 
+-- the body of a function
+abbrev pub body : ℕ → Mark
+body number = record { file = 0; kind = construct_kind.Function; number = number; path = 0 }
+
 -- `print(1);`: a start, a statement and a call
 abbrev pub one_line : List Stmt
 one_line = Expression (at 0 9) (prints (number (codes "1") ∷ [])) ∷ []
@@ -107,8 +87,6 @@ one_line = Expression (at 0 9) (prints (number (codes "1") ∷ [])) ∷ []
 pub record OneLine : Type 0 where
   pub counted : Counts one_line 3 Done (codes "1\n") (statement 0 ∷ [])
   pub cut : Counts one_line 2 Going [] (statement 0 ∷ [])
-  pub uncounted : Runs one_line 1 Done (codes "1\n")
-  pub none : Runs one_line 0 Going []
 
 -- `var x = 0; if (x) print(1);`: the arm that is missing is a path of the branch
 abbrev pub one_branch : List Stmt
@@ -134,7 +112,6 @@ nested_loop =
 pub record NestedLoop : Type 0 where
   pub counted : Counts nested_loop 9 Done [] (statement 0 ∷ statement 1 ∷ arm 0 0 ∷ statement 2 ∷ statement 3 ∷ statement 3 ∷ [])
   pub cut : Counts nested_loop 8 Going [] (statement 0 ∷ statement 1 ∷ arm 0 0 ∷ statement 2 ∷ statement 3 ∷ [])
-  pub uncounted : Runs nested_loop 2 Done []
 
 -- the second of two counted files: its constructs have its number, and numbers of their own
 abbrev pub two_files : Sources
@@ -172,7 +149,7 @@ method_body = MakeFunctionBody (at 22 24) no_stmt
 
 -- a body of the first file that is entered
 abbrev pub called : ℕ → FunctionBody → FunctionBody
-called number body = EnteredBody (record { file = 0; kind = construct_kind.Function; number = number; path = 0 }) body
+called number x = EnteredBody (body number) x
 
 -- a method has its numbers before the function in its key
 pub record ComputedMethod : Type 0 where
@@ -189,51 +166,52 @@ pub record LabelledLoop : Type 0 where
       ≡ placed (statement 0) (at 0 22) ∷ placed (arm 0 0) (at 0 22) ∷ placed (statement 1) (at 7 22) ∷ placed (statement 2) (at 10 22)
       ∷ placed (statement 3) (at 20 22) ∷ placed (arm 0 1) None ∷ []
 
--- `var i = 0; while (i < 3) { print(i); i = i + 1; }`: three turns and three calls
-abbrev pub three_turns : List Stmt
-three_turns =
-    var (codes "i") (number (codes "0")) ∷
-    While None (operation binary.LessThan (name (codes "i")) (number (codes "3")))
-    (Block None (statements (
-    does (prints (name (codes "i") ∷ [])) ∷
-    does (assign (codes "i") (operation binary.Add (name (codes "i")) (number (codes "1")))) ∷ []))) ∷ []
+-- `function boom() { throw 1; } let a = boom(), f = () => 1;`: the second initializer isn't reached
+abbrev pub not_hoisted : List Stmt
+not_hoisted =
+    FunctionDeclaration (at 0 28) (record { loc = at 9 13; name = codes "boom" })
+    (MakeFunction 0 no_param (MakeFunctionBody (at 16 28) (statements (Throw (at 18 26) (number (codes "1")) ∷ [])))) ∷
+    VariableDeclaration (at 29 57) variable.Let
+    (more_declarator (MakeDeclarator (at 33 43) (BindingIdentifier (at 33 34) (codes "a")) (some_expr (Call (at 37 43) (name (codes "boom")) no_expr)))
+    (more_declarator (MakeDeclarator (at 45 56) (BindingIdentifier (at 45 46) (codes "f")) (some_expr (ArrowFunction (at 49 56) 0 no_param (ExpressionBody (NumericLiteral (at 55 56) (codes "1"))))))
+    no_declarator)) ∷ []
 
-pub record ThreeTurns : Type 0 where
-  pub all : Runs three_turns 6 Done (codes "0\n1\n2\n")
-  pub cut : Runs three_turns 5 Going (codes "0\n1\n")
-  pub more : Runs three_turns 20 Done (codes "0\n1\n2\n")
+pub record NotHoisted : Type 0 where
+  pub counted : Counts not_hoisted 5 (Threw (codes "1")) [] (statement 1 ∷ body 0 ∷ statement 0 ∷ [])
+  pub cut : Counts not_hoisted 4 Going [] (statement 1 ∷ body 0 ∷ [])
 
--- numbers, texts and their refusals
-pub record Refusals : Type 0 where
-  -- `print(9007199254740991 + 1);`
-  pub sum : Runs (does (prints (operation binary.Add (number (codes "9007199254740991")) (number (codes "1")) ∷ [])) ∷ []) 9 (Range kind.Number) []
-  -- `print(9007199254740992);`
-  pub literal : Runs (does (prints (number (codes "9007199254740992") ∷ [])) ∷ []) 9 (Range kind.Number) []
-  -- `print(exports);`
-  pub convert : Runs (does (prints (name (codes "exports") ∷ [])) ∷ []) 9 (Range kind.Convert) []
+-- `function h(g = () => 1) { return g.name; } print(h()); print(h(0).length);`: a default is entered where no argument is given, and
+-- before the body
+abbrev pub default_once : List Stmt
+default_once =
+    FunctionDeclaration (at 0 42) (record { loc = at 9 10; name = codes "h" })
+    (MakeFunction 0 (more_param (MakeParam (at 11 22) (BindingIdentifier (at 11 12) (codes "g"))
+    (some_expr (ArrowFunction (at 15 22) 0 no_param (ExpressionBody (NumericLiteral (at 21 22) (codes "1")))))) no_param)
+    (MakeFunctionBody (at 24 42) (statements (Return (at 26 40) (some_expr (NamedMember (at 33 39) (name (codes "g")) (codes "name"))) ∷ [])))) ∷
+    Expression (at 43 54) (prints (call (name (codes "h")) [] ∷ [])) ∷
+    Expression (at 55 74) (prints (NamedMember (at 61 72) (call (name (codes "h")) (number (codes "0") ∷ [])) (codes "length") ∷ [])) ∷ []
 
--- what isn't caught
-pub record Errors : Type 0 where
-  -- `f();`
-  pub callee : Runs (does (call (name (codes "f")) []) ∷ []) 9 (Threw (codes "ReferenceError: not defined")) []
-  -- `x = 1;`
-  pub target : Runs (does (assign (codes "x") (number (codes "1"))) ∷ []) 9 (Threw (codes "ReferenceError: not defined")) []
-  -- `print = 1;`
-  pub constant : Runs (does (assign (codes "print") (number (codes "1"))) ∷ []) 9 (Threw (codes "TypeError: constant")) []
-  -- `"f"();`, which asks for no step
-  pub function : Runs (does (call (string (codes "f")) []) ∷ []) 0 (Threw (codes "TypeError: not a function")) []
+pub record DefaultOnce : Type 0 where
+  pub counted : Counts default_once 11 (Threw (codes "TypeError: no properties")) (codes "g\n")
+      (statement 2 ∷ arm 0 0 ∷ body 0 ∷ statement 1 ∷ statement 3 ∷ body 0 ∷ statement 1 ∷ [])
 
--- names, and the order of what is done
-pub record Orders : Type 0 where
-  -- `print(x, module()); var x = 1;`: arguments come before the callee is looked at
-  pub arguments : Runs (does (call (name (codes "module")) (prints (name (codes "x") ∷ []) ∷ [])) ∷ var (codes "x") (number (codes "1")) ∷ []) 9
-      (Threw (codes "TypeError: not a function")) (codes "undefined\n")
-  -- `print(print(1), null, "a");`
-  pub inner : Runs (does (prints (prints (number (codes "1") ∷ []) ∷ NullLiteral None ∷ string (codes "a") ∷ [])) ∷ []) 9
-      Done (codes "1\nundefined null a\n")
-  -- `var print = 1; print = print + "b"; undefined;`
-  pub shadowed : Runs (var (codes "print") (number (codes "1")) ∷ does (assign (codes "print") (operation binary.Add (name (codes "print")) (string (codes "b")))) ∷ does (name (codes "undefined")) ∷ []) 0
-      Done []
-  -- `if ("") print(1); else print(2);`
-  pub arms : Runs (If None (string []) (does (prints (number (codes "1") ∷ []))) (some_stmt (does (prints (number (codes "2") ∷ [])))) ∷ []) 1
-      Done (codes "2\n")
+-- `switch (1) { case 1: case 2: print(2); break; default: }`: a clause is entered also by falling through
+abbrev pub falls_through : List Stmt
+falls_through = Switch (at 0 56) (number (codes "1"))
+    (more_case (MakeCase (at 13 20) (some_expr (number (codes "1"))) no_stmt)
+    (more_case (MakeCase (at 21 45) (some_expr (number (codes "2"))) (statements (
+    Expression (at 29 38) (prints (number (codes "2") ∷ [])) ∷
+    Break (at 39 45) None ∷ [])))
+    (more_case (MakeCase (at 46 54) none_expr no_stmt) no_case))) ∷ []
+
+pub record FallsThrough : Type 0 where
+  pub counted : Counts falls_through 7 Done (codes "2\n") (statement 0 ∷ arm 0 0 ∷ arm 0 1 ∷ statement 1 ∷ statement 2 ∷ [])
+
+-- `undefined ?? (0 && (1 || 2));`: of a chain, the leaves up to the one that decides are entered
+abbrev pub chain : List Stmt
+chain = Expression (at 0 29) (Logical (at 0 28) logical.Coalesce (name (codes "undefined"))
+    (Parenthesized (at 13 28) (Logical (at 14 27) logical.And (NumericLiteral (at 14 15) (codes "0"))
+    (Parenthesized (at 19 27) (Logical (at 20 26) logical.Or (NumericLiteral (at 20 21) (codes "1")) (NumericLiteral (at 25 26) (codes "2"))))))) ∷ []
+
+pub record Chain : Type 0 where
+  pub counted : Counts chain 4 Done [] (statement 0 ∷ arm 0 0 ∷ arm 0 1 ∷ [])

@@ -1,5 +1,5 @@
 -- How a program runs: its end, what it prints, and what it enters, with so many steps.
-use Rattle.std.specs.Prelude.{ℕ, ◌+◌, List, [], ◌∷◌, ◌++◌, Option, Some, None, codes, option_map}
+use Rattle.std.specs.Prelude.{ℕ, List, [], ◌∷◌, ◌++◌, Option, Some, None, codes, option_map}
 use Rattle.js_tree.specs.Mark.{Mark}
 use Rattle.js_tree.specs.Marked.{times}
 use Rattle.js_value.specs.declared.value.Value.{Value}
@@ -9,7 +9,6 @@ use Rattle.js_value.specs.Operators.{text_of_primitive}
 use Rattle.js_value.specs.State.{ObjectKind, Error, BuiltIn, Written, Heap, Store}
 use Rattle.js_value.specs.Objects.{kind_of, get}
 use Rattle.js_value.specs.Host.{utf8_of}
-use Rattle.js_value.specs.Realm.{realm}
 use Rattle.js_meaning.specs.declared.outcome.Completion.{Completion}
 use Rattle.js_meaning.specs.declared.outcome.Completion.TheVariants.{Throw}
 use Rattle.js_meaning.specs.declared.outcome.Outcome.{Outcome}
@@ -19,6 +18,7 @@ use Rattle.js_meaning.specs.declared.outcome.End.TheVariants.{Done, Threw, Range
 use Rattle.js_meaning.specs.Effects.{Ran, exec}
 use Rattle.js_meaning.specs.Program.{Sources, linked, uncounted, file_at}
 use Rattle.js_meaning.specs.Files.{inside, start_file}
+use Rattle.js_meaning.specs.Prelude.{opening}
 
 -- What is shown of a thrown value
 
@@ -53,7 +53,7 @@ shown h v = utf8_of (shown_units h v)
 
 -- what a file of a program with its marks does with so many steps
 abbrev pub run : Sources → ℕ → ℕ → Ran
-run p file n = exec (inside p) n (start_file p file) realm
+run p file n = exec (inside p) n (start_file p file) (opening p)
 
 abbrev pub meaning : Sources → ℕ → ℕ → Ran
 meaning p file n = run (linked p) file n

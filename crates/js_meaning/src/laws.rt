@@ -1,7 +1,9 @@
-ghost use Rattle.js_meaning.specs.Laws.{RunsAsEvaluated, Composes, StopsBefore, ChargesOne, EndsForGood, GoesOn, Follows, TurnsByStep, TurnsAgain, ChoosesArm, NotesConstruct, RunsWithoutCounting, EndsPlainly, SaysWhatIsSaid, SaysTurns, LinksSaid, NamesFunctions};
+ghost use Rattle.js_meaning.specs.Shapes.{GetsHeld, HoldsName, BlocksAlone, OneAlone};
+ghost use Rattle.js_meaning.specs.Laws.{RunsAsEvaluated, Composes, StopsBefore, ChargesOne, EndsForGood, GoesOn, Follows, TurnsByStep, TurnsAgain, ChoosesArm, NotesConstruct, RunsWithoutCounting, EndsPlainly, NamesFunctions};
+ghost use Rattle.js_meaning.specs.Points.{RunsFromPoint, PointsOnward, ReadsName, WritesName, InitializesName, MakesScope, AsksCall, TakesStep};
+ghost use Rattle.js_meaning.specs.VarNames.{MeetsVarNames};
 ghost use Rattle.js_meaning.specs.Counted.{MarksConstructs, MarksEach, MarksEnter, MarksOnce};
 ghost use Rattle.js_tree.specs.Unmarked.{UnmarksLinked};
-ghost use Rattle.js_meaning.specs.Unsaid.{RunsWhatIsSaid};
 
 /// Of one computation after another, the second has what the first left of its steps.
 pub fn composition()
@@ -38,14 +40,6 @@ pub fn forms()
     ensures arm { ChoosesArm }
 {}
 
-/// The meaning of a file whose statements are all run is said: none comes to a form that is not in the language.
-pub fn language()
-    ensures runs { RunsWhatIsSaid }
-    ensures says { SaysWhatIsSaid }
-    ensures turns { SaysTurns }
-    ensures linked { LinksSaid }
-{}
-
 /// Without its marks a counted file is the file that isn't counted, and each function of a program has the number by which it is
 /// found. The marks of a counted file are those of its constructs: each mark of each of them stands there once, and no other does,
 /// and what it enters stands where the list of constructs has it.
@@ -56,4 +50,31 @@ pub fn marks()
     ensures constructs { MarksConstructs }
     ensures once { MarksOnce }
     ensures each { MarksEach }
+{}
+
+/// What an instrumented text has in another shape than its source means the same: a function that is held by a property of its name is the
+/// named function, but for one more object, and a block that declares nothing, or a list of one statement, is what is in it.
+pub fn shapes()
+    ensures held { GetsHeld }
+    ensures name { HoldsName }
+    ensures block { BlocksAlone }
+    ensures one { OneAlone }
+{}
+
+/// A walk through a body meets the names that `var` declares in it.
+pub fn names()
+    ensures met { MeetsVarNames }
+{}
+
+/// A computation is told by where it comes to without a step, and goes on from there: at a name that is there it reads or writes it, a
+/// scope is one environment more, and a call of a function of the program asks for one step.
+pub fn points()
+    ensures runs { RunsFromPoint }
+    ensures onward { PointsOnward }
+    ensures reads { ReadsName }
+    ensures writes { WritesName }
+    ensures initializes { InitializesName }
+    ensures scope { MakesScope }
+    ensures asks { AsksCall }
+    ensures takes { TakesStep }
 {}

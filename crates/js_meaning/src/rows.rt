@@ -1,6 +1,6 @@
-ghost use Rattle.js_meaning.specs.Rows.{OneLine, OneBranch, NestedLoop, SecondFile, ComputedMethod, LabelledLoop, ThreeTurns, Refusals, Errors, Orders};
+ghost use Rattle.js_meaning.specs.Rows.{OneLine, OneBranch, NestedLoop, SecondFile, ComputedMethod, LabelledLoop, NotHoisted, DefaultOnce, FallsThrough, Chain};
 
-/// What small programs do by the definition, worked out: it computes.
+/// Which constructs small programs enter by the definition, and in which order, worked out: it computes.
 pub fn worked_rows()
     ensures one_line { OneLine }
     ensures one_branch { OneBranch }
@@ -8,8 +8,8 @@ pub fn worked_rows()
     ensures second_file { SecondFile }
     ensures computed_method { ComputedMethod }
     ensures labelled_loop { LabelledLoop }
-    ensures three_turns { ThreeTurns }
-    ensures refusals { Refusals }
-    ensures errors { Errors }
-    ensures orders { Orders }
+    ensures not_hoisted { NotHoisted }
+    ensures default_once { DefaultOnce }
+    ensures falls_through { FallsThrough }
+    ensures chain { Chain }
 {}

@@ -16,7 +16,7 @@ pub then-kept : (c : Copied) (f : Heap → Copied) (es : List Environment) → c
 then-kept c f es e each =
     elim c.halt as (λ (x : Option Halt). (let d : Copied = elim x [ None ↦ f c.heap | Some _ ↦ c ] in d.heap.environments ≡ es)) [ None ↦ each c.heap ∙ e | Some _ ↦ e ]
 
-taken-kept : (o : ℕ) (key : List ℕ) (v : Or Value) (h : Heap) → (write_taken o key v h).heap.environments ≡ h.environments
+pub taken-kept : (o : ℕ) (key : List ℕ) (v : Or Value) (h : Heap) → (write_taken o key v h).heap.environments ≡ h.environments
 taken-kept o key (Ok v) h = refl
 taken-kept o key (Err halt) h = refl
 

@@ -50,7 +50,7 @@ themselves-same (suc n) o p i = same-next n o p (n == number_of place.Global) (t
 
 -- What an object refers to
 
-abbrev is_own_value : ℕ → Value → Bool
+abbrev pub is_own_value : ℕ → Value → Bool
 is_own_value n (value.Primitive p) = true
 is_own_value n (value.Object o) = is_own n o.index
 
@@ -90,7 +90,7 @@ each_of : (a b c d : Bool) → (a && (b && (c && d))) ≡ true → (a ≡ true) 
 each_of a b c d e = (grind arith, grind arith, grind arith, grind arith)
 
 module _ (n : ℕ) (F : (code around other_code other_around : ℕ) → Type 0) where
-  value-itself : (v : Value) → is_own_value n v ≡ true → Related (Paired (themselves n)) v v
+  pub value-itself : (v : Value) → is_own_value n v ≡ true → Related (Paired (themselves n)) v v
   value-itself (value.Primitive p) e = plain p
   value-itself (value.Object o) e = let r = own-low n o.index e in refs o o (themselves-from n o.index r.0 r.1)
 

@@ -140,19 +140,19 @@ module _ (pairs : Pairs) (F : (code around other_code other_around : ℕ) → Ty
   own_or-alike o p x y a b above over r neither t = t
   own_or-alike o p x y a b above over r (both v w s) t = both _ _ (found_in-alike o p x y v w r s)
 
-  none_found : (n : ℕ) (h : Heap) (key : List ℕ) → None ≡ found n h None key
-  none_found zero h key = refl
-  none_found (suc n) h key = refl
+  none_found : (n : ℕ) (objects : List ObjectRecord) (key : List ℕ) → None ≡ found n objects None key
+  none_found zero objects key = refl
+  none_found (suc n) objects key = refl
 
   module _ (h k : Heap) (hk : AlikeHeaps pairs F h k) where
     pub own-alike : (o p : ℕ) (key : List ℕ) → Paired pairs o p → InBoth (AlikeProperties pairs F) (own h o key) (own k p key)
     own-alike o p key i = own_of-alike o p _ _ key (hk.objects.related o p i)
 
     abbrev FoundBelow : ℕ → ℕ → List ℕ → Type 0
-    FoundBelow n m key = (o p : ℕ) → Paired pairs o p → o < n → p < m → InBoth AlikeFound (found n h (Some o) key) (found m k (Some p) key)
+    FoundBelow n m key = (o p : ℕ) → Paired pairs o p → o < n → p < m → InBoth AlikeFound (found n h.objects (Some o) key) (found m k.objects (Some p) key)
 
-    pub above-alike : (n m o p : ℕ) (a b : Option ℕ) (key : List ℕ) → AlikePrototypes pairs F o p a b → o < suc n → p < suc m → FoundBelow n m key → InBoth AlikeFound (found n h a key) (found m k b key)
-    above-alike n m o p a b key no_prototype lt lt' below = subst (λ x. InBoth AlikeFound x (found m k None key)) (none_found n h key) (subst (λ x. InBoth AlikeFound None x) (none_found m k key) neither)
+    pub above-alike : (n m o p : ℕ) (a b : Option ℕ) (key : List ℕ) → AlikePrototypes pairs F o p a b → o < suc n → p < suc m → FoundBelow n m key → InBoth AlikeFound (found n h.objects a key) (found m k.objects b key)
+    above-alike n m o p a b key no_prototype lt lt' below = subst (λ x. InBoth AlikeFound x (found m k.objects None key)) (none_found n h.objects key) (subst (λ x. InBoth AlikeFound None x) (none_found m k.objects key) neither)
     above-alike n m o p a b key (prototypes r q i l l') lt lt' below = below r q i (omega arith) (omega arith)
 
     pub found-alike : (n m : ℕ) (key : List ℕ) → FoundBelow n m key

@@ -12,7 +12,7 @@ use Rattle.js_value.specs.declared.deed.Halt.{Halt}
 use Rattle.js_value.specs.declared.deed.Halt.TheVariants.{Refuse}
 use Rattle.js_value.specs.State.{Property, ObjectRecord, Heap}
 use Rattle.js_value.specs.Objects as object
-use Rattle.js_value.specs.Objects.{object_at, kind_of, is_array, array_length, assigned, own, keys, Found, found_in, found, with_object, Write, Replaces, Adds, Puts, Appends, Cuts, ReadOnly, Sparse, BadLength, write_of_length, write_of_own, write_of_new, write_of_absent, write_to, write_of, set_by, set_answer, with_value_of, written}
+use Rattle.js_value.specs.Objects.{object_at, array_length, assigned, keys, Found, with_object, Write, Replaces, Adds, Puts, Appends, Cuts, ReadOnly, Sparse, BadLength, write_of_length, write_of_own, write_of_new, write_of_absent, write_to, write_of, set_by, set_answer, with_value_of, written}
 use Rattle.js_value.specs.Key.{index_of}
 use Rattle.js_value.specs.Arguments.{Or, to_number}
 use Rattle.js_value.specs.Copying.{Copied, goes_on, stops, and_then, as_number, taken, unwritten, write_taken, write, if_enumerable, write_found, copy_key, copy_keys, copy_value, copy_values}

@@ -2,7 +2,9 @@ pub mod DigitsLemmas
 pub mod EdgeWorked
 pub mod ExamplesLemmas
 pub mod HostWorked
+pub mod IndexLemmas
 pub mod KeyLemmas
+pub mod LookupLemmas
 pub mod NumbersLemmas
 pub mod PointLemmas
 pub mod PowerLemmas

@@ -1,6 +1,6 @@
 -- What can be done with objects (ECMA-262, 10.1 and 10.4.2): nothing else reads or changes one. What changes the heap is
 -- given it last; what an operation answers is told apart, from the heap before.
-use Rattle.std.specs.Prelude.{ℕ, zero, suc, Bool, true, false, not, ◌&&◌, List, [], ◌∷◌, ◌++◌, length, filter, find, take, slice_get, Option, Some, None, option_map, nat_lt, nat_eq, if◌then◌else◌, slice_index_or, slice_set, codes, pos, negsuc}
+use Rattle.std.specs.Prelude.{ℕ, zero, suc, Bool, true, false, not, ◌&&◌, ◌||◌, is_some, List, [], ◌∷◌, ◌++◌, length, filter, find, take, slice_get, Option, Some, None, option_map, nat_lt, nat_eq, if◌then◌else◌, slice_index_or, slice_set, codes, pos, negsuc}
 use Rattle.std.specs.Str.{bytes_eq}
 use Rattle.js_value.specs.declared.value.Value.{Value}
 use Rattle.js_value.specs.declared.value.Value.TheVariants as value
@@ -14,8 +14,11 @@ use Rattle.js_value.specs.Numbers.{decimal_text}
 abbrev pub no_object : ObjectRecord
 no_object = record { kind = Plain; prototype = None; frozen = false; elements = []; properties = [] }
 
+abbrev pub object_in : List ObjectRecord → ℕ → ObjectRecord
+object_in objects o = slice_index_or objects o no_object
+
 abbrev pub object_at : Heap → ℕ → ObjectRecord
-object_at h o = slice_index_or h.objects o no_object
+object_at h o = object_in h.objects o
 
 abbrev pub kind_of : Heap → ℕ → ObjectKind
 kind_of h o = (object_at h o).kind
@@ -92,17 +95,31 @@ found_in object p = record { property = p; writable = p.writable && not object.f
 
 -- the property of the first on a chain of prototypes that has it. In a run a prototype is older than what inherits from it,
 -- so a chain has at most as many members as the number of its first one, and it.
-abbrev pub found : ℕ → Heap → Option ℕ → List ℕ → Option Found
-found zero h chain key = None
-found (suc n) h None key = None
-found (suc n) h (Some o) key = elim (own h o key) [
-  | Some p ↦ Some (found_in (object_at h o) p)
-  | None ↦ found n h (object_at h o).prototype key
+abbrev pub found : ℕ → List ObjectRecord → Option ℕ → List ℕ → Option Found
+found zero objects chain key = None
+found (suc n) objects None key = None
+found (suc n) objects (Some o) key = elim (own_of (object_in objects o) key) [
+  | Some p ↦ Some (found_in (object_in objects o) p)
+  | None ↦ found n objects (object_in objects o).prototype key
 ]
 
 -- 10.1.8
 abbrev pub get : Heap → ℕ → List ℕ → Option Value
-get h o key = option_map (λ f. f.property.value) (found (suc o) h (Some o) key)
+get h o key = option_map (λ f. f.property.value) (found (suc o) h.objects (Some o) key)
+
+-- 7.3.12
+abbrev pub has_property : Heap → ℕ → List ℕ → Bool
+has_property h o key = is_some (found (suc o) h.objects (Some o) key)
+
+-- whether an object is the first on a chain of prototypes, or above it
+abbrev pub stands_on : ℕ → List ObjectRecord → Option ℕ → ℕ → Bool
+stands_on zero objects chain p = false
+stands_on (suc n) objects None p = false
+stands_on (suc n) objects (Some o) p = nat_eq o p || stands_on n objects (object_in objects o).prototype p
+
+-- 7.3.21, 6: whether an object inherits from another
+abbrev pub inherits : Heap → ℕ → ℕ → Bool
+inherits h o p = stands_on o h.objects (object_at h o).prototype p
 
 -- so many indices as keys, from one on
 abbrev pub index_keys : (from count : ℕ) → List Key
@@ -204,7 +221,7 @@ write_to object None inherited key v = write_of_absent object inherited key
 
 -- 10.1.9
 abbrev pub write_of : Heap → ℕ → List ℕ → Value → Write
-write_of h o key v = write_to (object_at h o) (own h o key) (found o h (object_at h o).prototype key) key v
+write_of h o key v = write_to (object_at h o) (own h o key) (found o h.objects (object_at h o).prototype key) key v
 
 -- what a write answers
 pub data Set : Type 0 where

@@ -3,7 +3,7 @@ use crate::spelled::{bytes_of, push_lines, push_number};
 use cov_base::Memory;
 use cov_run::start;
 use js_machine::Machine;
-use js_meaning::{End, language, not_run};
+use js_meaning::End;
 use js_parser::parse;
 use js_scopes::check;
 use js_text::{Limits, Text};
@@ -35,15 +35,11 @@ fn machine_of(alloc: Global, bytes: Vec<u8>) -> Result<Option<Machine>, Memory> 
     machine_before(alloc, &text)
 }
 
-/// A machine before a text, if it is read, keeps the early rules, and is of the language that is run.
+/// A machine before a text, if it is read and keeps the early rules.
 fn machine_before(alloc: Global, text: &Text) -> Result<Option<Machine>, Memory> {
-    language();
     let Ok(file) = parse(alloc, text, Limits::source()) else {
         return Ok(None);
     };
-    if not_run(&file).is_some() {
-        return Ok(None);
-    }
     match check(alloc, file) {
         Ok(checked) => Ok(Some(start(alloc, "a.js", checked)?)),
         Err(_) => Ok(None),

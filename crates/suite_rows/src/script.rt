@@ -17,6 +17,8 @@
 //     names TEXT       the names that the text writes, and what it asks for
 //     height TEXT      the height of the tree that the text is read to
 //     same TEXT <> TEXT   whether the two are read to the same but for places and parentheses
+//     prelude TEXT     whether the text is that of the host's prelude, and is read to the tree that stands for it, but
+//                      for places and parentheses
 //     prints TEXT      the lines that the tree of the text is printed as (`>`), or where and why it is refused (`!`)
 //     pieces TIMES N TEXT   prints the tree of the text, TIMES over, to a sink whose write N fails: how many bytes it has
 //                      taken then, and how that ends (`=`)
@@ -28,7 +30,7 @@ use crate::call::Setting;
 use crate::names::names_of;
 use crate::parts::run_parts;
 use crate::printed::{marks_of, print_lines, print_pieces};
-use crate::shape::{height_of, same_of};
+use crate::shape::{height_of, prelude_of, same_of};
 use crate::spelled::bytes_of;
 use crate::tokens::{template_of, tokens_of};
 use cov_base::Memory;
@@ -111,6 +113,7 @@ fn answer(alloc: Global, word: &str, text: &str) -> Result<Option<String>, Memor
         "marks" => Ok(Some(marks_of(alloc, bytes_of(alloc, text)?)?)),
         "height" => Ok(Some(height_of(alloc, bytes_of(alloc, text)?)?)),
         "same" => same_of(alloc, text),
+        "prelude" => Ok(Some(prelude_of(alloc, bytes_of(alloc, text)?)?)),
         _ => Ok(None),
     }
 }

@@ -3,6 +3,8 @@ use crate::place::read;
 use crate::spelled::{bytes_of, push_number};
 use cov_base::Memory;
 use js_height::height;
+use js_host::PRELUDE;
+use js_prelude::prelude;
 use js_same::same;
 use js_tree::File;
 use std::alloc::Global;
@@ -32,6 +34,21 @@ pub(crate) fn same_of(alloc: Global, pair: &str) -> Result<Option<String>, Memor
         _ => "not read",
     };
     Ok(Some(String::from_str(alloc, answer)?))
+}
+
+/// Whether the text is that of the host's prelude and is read to the tree that `prelude` makes, each compared with the
+/// other.
+pub(crate) fn prelude_of(alloc: Global, bytes: Vec<u8>) -> Result<String, Memory> {
+    if bytes.as_slice() != PRELUDE.as_bytes() {
+        return String::from_str(alloc, "another text");
+    }
+    match read(alloc, bytes)? {
+        Ok(file) => {
+            let made = prelude(alloc)?;
+            String::from_str(alloc, compared(&file, made.file()))
+        }
+        Err(refused) => Ok(refused),
+    }
 }
 
 fn compared(one: &File, other: &File) -> &'static str {

@@ -13,7 +13,7 @@ use Rattle.cov_base.specs.Store.{Held}
 use Rattle.cov_base.specs.Sink.{after_more, TakesPrefix}
 use Rattle.js_meaning.specs.declared.outcome.End.{End}
 use Rattle.cov_words.specs.declared.command.SourceTask.{SourceTask}
-use Rattle.cov_commands.specs.Source.{Holds, Takes, not_run_by, answer_of}
+use Rattle.cov_commands.specs.Source.{Holds, answer_of}
 use Rattle.cov_commands.specs.Line as said
 use Rattle.cov_commands.specs.declared.answer.Answer.{Answer}
 use Rattle.cov_commands.specs.declared.fault.Fault.{Fault}
@@ -44,17 +44,6 @@ IsBytesFault (fault.Broken broken) bytes = (length bytes ≤ source_limits.bytes
 IsBytesFault fault.OutOfMemory bytes = Unit {0}
 IsBytesFault other bytes = ⊥
 
--- a tree of a source that a task doesn't take
-abbrev pub IsTaskFault : Fault → SourceTask → File → Type 0
-IsTaskFault (fault.NotRun at) task tree = not_run_by task tree ≡ Some at
-IsTaskFault fault.OutOfMemory task tree = Unit {0}
-IsTaskFault other task tree = ⊥
-
--- bytes that are no source, or one that a task doesn't take
-abbrev pub IsContentFault : Fault → SourceTask → List ℕ → Type 0
-IsContentFault (fault.NotRun at) task bytes = (tree : File) × Accepted bytes tree × HasOnly bytes tree × (not_run_by task tree ≡ Some at)
-IsContentFault other task bytes = IsBytesFault other bytes
-
 -- a file that isn't read
 abbrev pub IsReadingFault : Fault → Option Held → List ℕ → Type 0
 IsReadingFault fault.NoFile told path = Holds told path None
@@ -66,9 +55,9 @@ IsReadingFault other told path = ⊥
 abbrev pub IsCause : Fault → SourceTask → Option Held → List ℕ → Type 0
 IsCause fault.NoFile task told path = Holds told path None
 IsCause fault.ReadFailed task told path = Unit {0}
-IsCause fault.WriteFailed task told path = (bytes : List ℕ) × (tree : File) × Holds told path (Some bytes) × Takes task bytes tree
+IsCause fault.WriteFailed task told path = (bytes : List ℕ) × (tree : File) × Holds told path (Some bytes) × Accepted bytes tree
 IsCause fault.OutOfMemory task told path = Unit {0}
-IsCause why task told path = (bytes : List ℕ) × Holds told path (Some bytes) × IsContentFault why task bytes
+IsCause why task told path = (bytes : List ℕ) × Holds told path (Some bytes) × IsBytesFault why bytes
 
 -- what is said of a fault
 abbrev pub message_at : Fault → List ℕ → said.Message
@@ -80,18 +69,17 @@ message_at (fault.Syntax at) path = said.Syntax path at
 message_at (fault.Unsupported at form) path = said.LeftOut path at form
 message_at (fault.TooDeep at) path = said.TooDeep path at
 message_at (fault.Broken broken) path = said.Broken path broken
-message_at (fault.NotRun at) path = said.NotRun path at
 message_at fault.WriteFailed path = said.WriteFailed
 message_at fault.OutOfMemory path = said.OutOfMemory
 
 -- the answer is that to a task on a file of these bytes
 abbrev pub IsAnswerTo : SourceTask → List ℕ → List ℕ → Answer → Type 0
-IsAnswerTo task path bytes answer = (tree : File) × Takes task bytes tree × HasOnly bytes tree × (answer ≡ answer_of task path bytes tree)
+IsAnswerTo task path bytes answer = (tree : File) × Accepted bytes tree × HasOnly bytes tree × (answer ≡ answer_of task path bytes tree)
 
 -- nothing was printed, or a prefix of the output of a task on a file
 pub data PrintsAtMost (told : Option Held) (task : SourceTask) (path : List ℕ) (before after : Option (List ℕ)) : Type 0 where
   nothing : after ≡ before → PrintsAtMost told task path before after
-  some : {bytes : List ℕ} {tree : File} → Holds told path (Some bytes) → Takes task bytes tree → HasOnly bytes tree →
+  some : {bytes : List ℕ} {tree : File} → Holds told path (Some bytes) → Accepted bytes tree → HasOnly bytes tree →
       TakesPrefix before after (answer_of task path bytes tree).output → PrintsAtMost told task path before after
 
 -- with these faults nothing was printed
@@ -105,7 +93,7 @@ pub record IsAnswered (told : Option Held) (task : SourceTask) (path : List ℕ)
   pub bytes : List ℕ
   pub tree : File
   pub held : Holds told path (Some bytes)
-  pub accepted : Takes task bytes tree
+  pub accepted : Accepted bytes tree
   pub only : HasOnly bytes tree
   pub ends : (answer_of task path bytes tree).end ≡ end
   pub printed : after ≡ after_more before (answer_of task path bytes tree).output

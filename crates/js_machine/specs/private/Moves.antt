@@ -11,8 +11,8 @@ use Rattle.js_machine.specs.declared.data.Rest.TheVariants as rest
 use Rattle.js_machine.specs.declared.data.Move.{Move}
 use Rattle.js_machine.specs.declared.data.Move.TheVariants as move
 use Rattle.js_machine.specs.declared.state.State.{State}
-use Rattle.js_code.specs.Node.{Reader}
-use Rattle.js_machine.specs.private.Config.{View, control_comp, control_weight, frames_weight, plug}
+use Rattle.js_machine.specs.private.Config.{View, control_comp, plug}
+use Rattle.js_machine.specs.private.Weight.{place_weight, control_weight, frames_weight}
 use Rattle.js_machine.specs.private.State.{Held, held, store_of}
 
 -- what waits, what is next, and what the program can change
@@ -31,8 +31,8 @@ pub record Leads (t : View) (a b : Here) : Type 0 where
       exec inside n (todo t a) (store_of base a.state) ≡ exec inside n (todo t b) (store_of base b.state)
 
 -- the work that is left up to the next step that is asked for
-abbrev pub work : Reader → Here → ℕ
-work t h = frames_weight t h.frames + control_weight t h.control
+abbrev pub work : Here → ℕ
+work h = frames_weight place_weight h.frames + control_weight place_weight h.control
 
 -- where the machine can't go on by itself; where it is done, nothing waits
 abbrev pub IsAt : Rest → Control → List Frame → Type 0
@@ -48,10 +48,15 @@ rest_control (rest.Asks e) = control.Enter e
 abbrev pub here : List Frame → Control → State → Here
 here frames next s = record { frames = frames; control = next; state = held s }
 
--- a transition leads on and leaves less work, or the machine can't go on by itself and nothing changes
+-- a transition leads on, or the machine can't go on by itself and nothing changes
 abbrev pub Moves : View → Here → Move → List Frame → State → Type 0
-Moves t h (move.Next c) fs s = Leads t h (here fs c s) × (work t.tree (here fs c s) < work t.tree h)
+Moves t h (move.Next c) fs s = Leads t h (here fs c s)
 Moves t h (move.At r) fs s = IsAt r h.control fs × (fs ≡ h.frames) × (held s ≡ h.state)
+
+-- where it leads on, it leaves less work
+abbrev pub Lessens : Here → Move → List Frame → State → Type 0
+Lessens h (move.Next c) fs s = work (here fs c s) < work h
+Lessens h (move.At r) fs s = Unit {0}
 
 -- transitions lead to where the machine can't go on by itself
 abbrev pub Rests : View → Here → Rest → List Frame → State → Type 0

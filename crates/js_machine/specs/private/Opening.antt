@@ -1,35 +1,35 @@
 -- What stands when a file begins.
-use Rattle.std.specs.Prelude.{◌≡◌, ℕ, false, List, [], Some, slice_get}
-use Rattle.js_tree.specs.Plain.{File, MakeFile, Stmts}
-use Rattle.js_tree.specs.Linked.{Numbers}
-use Rattle.js_value.specs.Objects.{next_object}
-use Rattle.js_value.specs.Environments.{next_environment}
-use Rattle.js_value.specs.Realm.{opening}
-use Rattle.js_code.specs.Code.{numbered}
-use Rattle.js_meaning.specs.Effects.{handle}
-use Rattle.js_meaning.specs.Meaning.{comp_stmts}
-use Rattle.js_meaning.specs.VarNames.{var_stmts}
-use Rattle.js_meaning.specs.Files.{file_environment, file_objects, after_body}
-use Rattle.js_meaning.specs.Program.{Source, Sources, file_at}
+use Rattle.std.specs.Prelude.{◌≡◌, ℕ, false, List, []}
+use Rattle.js_tree.specs.Plain.{Function}
+use Rattle.js_tree.specs.Codes.{OfMethod}
+use Rattle.js_value.specs.declared.built_in.Place.TheVariants.{ArrayPrototype}
+use Rattle.js_value.specs.State.{Heap}
+use Rattle.js_value.specs.Objects.{next_object, define, freeze}
+use Rattle.js_value.specs.Realm.{number_of, global_environment, object, hidden}
+use Rattle.js_code.specs.Program.{ProgramCode}
+use Rattle.js_meaning.specs.Effects as E
+use Rattle.js_meaning.specs.Effects.{Comp, exec}
+use Rattle.js_meaning.specs.Files.{start_file}
+use Rattle.js_meaning.specs.Prelude.{opening}
+use Rattle.js_meaning.specs.Scopes.{shape_of, closed}
+use Rattle.js_meaning.specs.Program.{Sources}
+use Rattle.js_machine.specs.private.Carries.{Carries}
 use Rattle.js_machine.specs.private.Config.{view_of}
 use Rattle.js_machine.specs.private.Moves.{todo}
+use Rattle.js_machine.specs.private.State.{store_of}
 use Rattle.js_machine.specs.Whole.{Whole, output_of}
 
--- the file at a path
-pub record Found (p : Sources) (path : List ℕ) (source : Source) : Type 0 where
-  pub file : ℕ
-  pub found : file_at p path ≡ Some file
-  pub is : slice_get p.files file ≡ Some source
-
-abbrev pub statements_of : File → Stmts
-statements_of (MakeFile statements comments) = statements
-
--- a machine that has a file of these statements before it, and nothing behind it
-pub record Opens (statements : Stmts) (m : Whole) : Type 0 where
-  pub todo : (p : Sources) (k : Numbers) → todo (view_of p m.code) m.here
-      ≡ handle (comp_stmts p (numbered statements k) (next_environment opening)) after_body
-  pub heap : (k : Numbers) → m.here.state.heap
-      ≡ file_environment (next_object opening) (var_stmts (numbered statements k)) (file_objects opening)
+-- a machine that has a file of this code before it, and nothing behind it
+pub record Opens (code : ProgramCode) (file : ℕ) (m : Whole) : Type 0 where
+  pub code_is : m.code ≡ code
+  pub same : (p : Sources) → Carries p code → (inside : E.Entry → Comp) (n : ℕ) →
+      exec inside n (start_file p file) (opening p) ≡ exec inside n (todo (view_of p m.code.nodes) m.here) (store_of (opening p) m.here.state)
   pub printed : output_of m ≡ []
   pub given : m.given ≡ 0
   pub lost : m.lost ≡ false
+
+-- a method of arrays by the units of its name
+abbrev pub method_put : List ℕ → Function → Heap → Heap
+method_put units function h =
+    define (number_of ArrayPrototype) (hidden units (object (next_object h)))
+    (freeze (next_object h) (closed (shape_of (OfMethod function)) units global_environment h))

@@ -1,7 +1,7 @@
 use Rattle.std.proofs.Common.{option_map, ap, sym, ◌∙◌}
 use Rattle.std.proofs.lemmas.Option.{slice_get-map, slice_get-get_or}
 use Rattle.js_value.specs.Realm.{Row}
-use Rattle.js_host.specs.private.Stopping.{row_seen}
+use Rattle.js_host.specs.private.Row.{row_seen}
 use Rattle.js_host.proofs.call.row_of.Goals as goal
 
 pub returns : goal.returns

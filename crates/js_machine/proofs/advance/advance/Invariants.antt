@@ -1,12 +1,13 @@
 -- What was done leads here.
-use Rattle.js_code.specs.Code.{reader}
 use Rattle.js_meaning.specs.Program.{Sources}
+use Rattle.js_machine.specs.private.Carries.{Carries}
 use Rattle.js_machine.specs.private.Config.{view_of}
 use Rattle.js_machine.specs.private.Moves.{here, Leads, work}
 use Rattle.js_machine.proofs.advance.advance.Given as goal
 
 abbrev pub invariant-loop-next : goal.invariant-loop-next
-invariant-loop-next l = (p : Sources) → Leads (view_of p l.code) (here l.fn.frames.items l.fn.control l.fn.state) (here l.frames.items l.at l.state)
+invariant-loop-next l = (p : Sources) → Carries p l.code →
+    Leads (view_of p l.code.nodes) (here l.fn.frames.items l.fn.control l.fn.state) (here l.frames.items l.at l.state)
 
 abbrev pub decreases-loop-next : goal.decreases-loop-next
-decreases-loop-next l = work (reader l.code) (here l.frames.items l.at l.state)
+decreases-loop-next l = work (here l.frames.items l.at l.state)

@@ -1,4 +1,4 @@
-use Rattle.js_meaning.proofs.Worked.{one_line, one_branch, nested_loop, second_file, computed_method, labelled_loop, three_turns, refusals, errors, orders}
+use Rattle.js_meaning.proofs.Worked.{one_line, one_branch, nested_loop, second_file, computed_method, labelled_loop, not_hoisted, default_once, falls_through, chain}
 use Rattle.js_meaning.proofs.rows.worked_rows.Goals as goal
 
 pub returns-clause-one_line : goal.returns-clause-one_line
@@ -19,14 +19,14 @@ returns-clause-computed_method c = computed_method
 pub returns-clause-labelled_loop : goal.returns-clause-labelled_loop
 returns-clause-labelled_loop c = labelled_loop
 
-pub returns-clause-three_turns : goal.returns-clause-three_turns
-returns-clause-three_turns c = three_turns
+pub returns-clause-not_hoisted : goal.returns-clause-not_hoisted
+returns-clause-not_hoisted c = not_hoisted
 
-pub returns-clause-refusals : goal.returns-clause-refusals
-returns-clause-refusals c = refusals
+pub returns-clause-default_once : goal.returns-clause-default_once
+returns-clause-default_once c = default_once
 
-pub returns-clause-errors : goal.returns-clause-errors
-returns-clause-errors c = errors
+pub returns-clause-falls_through : goal.returns-clause-falls_through
+returns-clause-falls_through c = falls_through
 
-pub returns-clause-orders : goal.returns-clause-orders
-returns-clause-orders c = orders
+pub returns-clause-chain : goal.returns-clause-chain
+returns-clause-chain c = chain

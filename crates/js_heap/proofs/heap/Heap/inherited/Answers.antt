@@ -30,4 +30,4 @@ loop-preserved c =
     let none : own s o name ≡ None = ap (λ r. own_of r name) (sym c.record-record.ensures) ∙ sym c.in_default.ensures in
     let left : c.index-end.result - c.loop.counter ≡ suc m = omega arith in
     let same = rw c.in_ok-at.was at c.loop.invariant in
-    ap (λ chain. found m s chain name) next ∙ sym (found-further s _ m o name left none) ∙ same
+    ap (λ chain. found m s.objects chain name) next ∙ sym (found-further s _ m o name left none) ∙ same

@@ -7,4 +7,4 @@ abbrev pub invariant-loop : goal.invariant-loop
 invariant-loop l =
     let s = heap_of l.self in
     let o = l.fn.object.index in
-    found (l.end - l.counter) s (option_map (λ o. o.index) l.chain) l.name ≡ found o s (object_at s o).prototype l.name
+    found (l.end - l.counter) s.objects (option_map (λ o. o.index) l.chain) l.name ≡ found o s.objects (object_at s o).prototype l.name

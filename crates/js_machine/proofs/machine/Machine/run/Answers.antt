@@ -19,8 +19,8 @@ returns-clause-goes c =
     let next : c.put.new.control ≡ rest_control c.in_ok-rest.rest = c.put.ensures ∙ c.rest_control.ensures in
     subst (λ w. Goes w c.in_ok-end.end new) c.self.view_is
     (goes c.args.steps old new c.in_ok-rest.rest c.in_ok-end.end
-    (λ p. subst (λ k. Runs p (view_of p m.code) c.args.steps old.here c.in_ok-rest.rest (here c.run_on.new.frames.items k c.run_on.new.state))
+    (λ p carries. subst (λ k. Runs p (view_of p m.code.nodes) c.args.steps old.here c.in_ok-rest.rest (here c.run_on.new.frames.items k c.run_on.new.state))
     (sym next)
-    (subst (λ k. Runs p (view_of p m.code) c.args.steps (here m.frames.items k m.state) c.in_ok-rest.rest (here c.run_on.new.frames.items (rest_control c.in_ok-rest.rest) c.run_on.new.state))
-    c.take-control.ensures (c.in_ok-rest.ensures p)))
+    (subst (λ k. Runs p (view_of p m.code.nodes) c.args.steps (here m.frames.items k m.state) c.in_ok-rest.rest (here c.run_on.new.frames.items (rest_control c.in_ok-rest.rest) c.run_on.new.state))
+    c.take-control.ensures (c.in_ok-rest.ensures p carries)))
     refl refl c.in_ok-end.ensures)

@@ -1,0 +1,12 @@
+use Rattle.js_tree.specs.Tree.{plain_params, plain_stmts}
+use Rattle.js_code.proofs.Told.{code_told, length_told}
+use Rattle.js_code.proofs.declare.put_function.Goals as goal
+
+pub push-requires-clause-below : goal.push-requires-clause-below
+push-requires-clause-below c = (c.requires.params.placed, c.requires.body.placed)
+
+pub push-requires-clause-scope : goal.push-requires-clause-scope
+push-requires-clause-scope c = (length_told (plain_params c.args.params.now) c.requires.params c.expected_arguments.ensures, code_told (plain_params c.args.params.now) (plain_stmts c.args.stmts.now) c.requires.params c.requires.body c.in_ok-functions.ensures c.in_ok-scope.ensures)
+
+pub returns : goal.returns
+returns c = c.push.ensures

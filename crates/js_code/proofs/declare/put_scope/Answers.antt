@@ -1,0 +1,12 @@
+use Rattle.js_tree.specs.Tree.{plain_stmts}
+use Rattle.js_code.proofs.Told.{scope_told}
+use Rattle.js_code.proofs.declare.put_scope.Goals as goal
+
+pub push-requires-clause-below : goal.push-requires-clause-below
+push-requires-clause-below c = c.requires.reads.placed
+
+pub push-requires-clause-scope : goal.push-requires-clause-scope
+push-requires-clause-scope c = scope_told (plain_stmts c.args.stmts.now) c.requires.reads c.in_ok-functions.ensures c.in_ok-scope.ensures
+
+pub returns : goal.returns
+returns c = c.push.ensures

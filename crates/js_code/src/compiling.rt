@@ -1,0 +1,172 @@
+ghost use Rattle.std.specs.Prelude.{◌≡◌, ◌<◌, ◌^◌, ◌-◌, ◌++◌, ◌∷◌, [], length, set, slice_get, IfOk};
+ghost use Rattle.js_tree.specs.Plain.{BindingIdentifier};
+ghost use Rattle.js_tree.specs.Tree.{plain_pattern};
+ghost use Rattle.js_code.specs.declared.node.Node.TheVariants.{Missing};
+ghost use Rattle.js_code.specs.Node.{PartsBelow, ScopeHolds};
+ghost use Rattle.js_code.specs.Code.{node_at, reader};
+ghost use Rattle.js_code.specs.private.Compiled.{AllBelow, Chained, Pushed, Stands, built};
+
+use crate::node::{ListKind, Node};
+use crate::places::Places;
+use items::{Items, Memory, Text};
+use js_tree::{Identifier, Name, Pattern, PatternNode};
+use std::alloc::Global;
+use std::marker::Model;
+
+/// A program's code while it is made. Contracts see its nodes, and the place of each function's code by
+/// the function's number.
+pub struct Compiling {
+    nodes: Items<Node>,
+    functions: Places,
+    // what stands past the end
+    end: Node,
+}
+
+impl Model for Compiling {
+    ghost use Rattle.std.specs.Prelude.{◌≡◌};
+    ghost use Rattle.js_code.specs.declared.node.Node.TheVariants.{Missing};
+    ghost use Rattle.js_code.specs.Code.{IsOrdered, ScopesHold};
+    ghost use Rattle.js_code.specs.private.Push.{Compiling};
+
+    ghost Value = { Compiling };
+
+    ghost view = { λ code. record { nodes = code.nodes; functions = code.functions } };
+
+    // each node stands after its parts, and tells its scope
+    ghost invariant = { λ code. IsOrdered code.nodes × ScopesHold code.nodes × (code.end ≡ Missing) };
+}
+
+impl Drop for Compiling {
+    fn drop(self) {
+        let Compiling {
+            nodes,
+            functions,
+            end,
+        } = self;
+        drop(nodes);
+        drop(functions);
+        drop(end);
+    }
+}
+
+impl Compiling {
+    /// The node at a place: past the end it is a missing part.
+    pub fn node(&self, place: usize) -> &Node
+        ensures is { result.now ≡ node_at self.now.nodes place }
+        ensures stands { Stands self.now.nodes place result.now }
+        ensures few { length self.now.nodes < 2 ^ 64 - 1 }
+    {
+        at(self.nodes.as_slice(), place, &self.end)
+    }
+
+    /// The place of the code of the function with a number.
+    pub fn function(&self, number: u64) -> Option<usize>
+        ensures { result ≡ slice_get self.now.functions number }
+    {
+        self.functions.get(number as usize)
+    }
+}
+
+/// What stands at a place: past the end it is the missing part.
+fn at<'a>(nodes: &'a [Node], place: usize, missing: &'a Node) -> &'a Node
+    requires { missing.now ≡ Missing }
+    ensures { result.now ≡ node_at nodes.now place }
+{
+    match nodes.get(place) {
+        Some(node) => node,
+        None => missing,
+    }
+}
+
+/// Code that has nothing yet.
+pub fn begin(alloc: Global) -> Compiling
+    ensures nodes { result.nodes ≡ [] }
+    ensures functions { result.functions ≡ [] }
+{
+    Compiling {
+        nodes: Items::new(alloc),
+        functions: Places::new(alloc),
+        end: Node::Missing,
+    }
+}
+
+/// Puts a node at the end, and gives its place.
+pub fn push(code: &mut Compiling, node: Node) -> Result<usize, Memory>
+    requires below { PartsBelow (length code.old.nodes) node }
+    requires scope { ScopeHolds (reader code.old.nodes) node }
+    ensures { IfOk result (λ place. Pushed code.old code.new place (built node)) }
+{
+    let place = code.nodes.len();
+    code.nodes.push(node)?;
+    Ok(place)
+}
+
+/// A copy of a text.
+pub fn copied(alloc: Global, text: &Text) -> Result<Text, Memory>
+    ensures { IfOk result (λ copy. copy ≡ text.now) }
+{
+    Text::from_str(alloc, text.as_str())
+}
+
+/// A copy of an identifier.
+pub fn copied_identifier(alloc: Global, identifier: &Identifier) -> Result<Identifier, Memory>
+    ensures { IfOk result (λ copy. copy ≡ identifier.now) }
+{
+    Ok(Identifier {
+        loc: identifier.loc,
+        name: copied(alloc, &identifier.name)?,
+    })
+}
+
+/// Puts the list of the parts at these places at the end, and gives its place.
+pub fn chain(code: &mut Compiling, kind: ListKind, places: &[usize]) -> Result<usize, Memory>
+    requires below { AllBelow (length code.old.nodes) places.now }
+    ensures { IfOk result (λ place. Chained code.old code.new kind places.now place) }
+{
+    let mut rest = push(code, Node::End { kind })?;
+    for index in (0..places.len()).rev() {
+        let first = places[index];
+        rest = push(code, Node::More { kind, first, rest })?;
+    }
+    Ok(rest)
+}
+
+/// The number of the next function, whose code comes later.
+pub fn reserve(code: &mut Compiling) -> Result<u64, Memory>
+    ensures nodes { code.new.nodes ≡ code.old.nodes }
+    ensures reserved { IfOk result (λ number. (number ≡ length code.old.functions) × (code.new.functions ≡ code.old.functions ++ 0 ∷ [])) }
+{
+    let number = code.functions.len();
+    code.functions.push(0)?;
+    Ok(number as u64)
+}
+
+/// The code of the function with this number stands at this place.
+pub fn note(code: &mut Compiling, number: u64, place: usize)
+    ensures nodes { code.new.nodes ≡ code.old.nodes }
+    ensures noted { code.new.functions ≡ set code.old.functions number place }
+{
+    code.functions.put(number as usize, place);
+}
+
+/// A copy of an identifier that may be missing.
+pub fn copied_if(
+    alloc: Global,
+    identifier: &Option<Identifier>,
+) -> Result<Option<Identifier>, Memory>
+    ensures { IfOk result (λ copy. copy ≡ identifier.now) }
+{
+    match identifier {
+        None => Ok(None),
+        Some(identifier) => Ok(Some(copied_identifier(alloc, identifier)?)),
+    }
+}
+
+/// A copy of the name that a pattern binds.
+#[tactic(auto, using(js_tree::proofs::Equations::tree_rules))]
+pub fn bound_name(alloc: Global, pattern: &Pattern) -> Result<Name, Memory>
+    ensures { IfOk result (λ name. plain_pattern pattern.now ≡ BindingIdentifier pattern.now.loc name) }
+{
+    let PatternNode::BindingIdentifier(name) = &pattern.node;
+    copied(alloc, name)
+}

@@ -1,0 +1,8 @@
+use Rattle.std.proofs.Common.{refl}
+use Rattle.js_machine.proofs.clauses.begin_select_case.Goals as goal
+
+pub returns-in-None-clause-means : goal.returns-in-None-clause-means
+returns-in-None-clause-means c = λ t loc. rw c.in-None.is refl
+
+pub returns-in-Some-clause-means : goal.returns-in-Some-clause-means
+returns-in-Some-clause-means c = λ t loc. rw c.in-Some.is refl

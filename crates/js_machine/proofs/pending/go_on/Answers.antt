@@ -1,0 +1,137 @@
+use Rattle.std.proofs.Common.{refl}
+use Rattle.js_machine.proofs.pending.go_on.Goals as goal
+
+pub returns-in-NamedMember-clause-means : goal.returns-in-NamedMember-clause-means
+returns-in-NamedMember-clause-means c = λ t. rw c.in-NamedMember.is refl
+
+pub returns-in-MemberObject-clause-means : goal.returns-in-MemberObject-clause-means
+returns-in-MemberObject-clause-means c = λ t. rw c.in-MemberObject.is refl
+
+pub returns-in-MemberKey-clause-means : goal.returns-in-MemberKey-clause-means
+returns-in-MemberKey-clause-means c = λ t. rw c.in-MemberKey.is refl
+
+pub returns-in-Constructor-clause-means : goal.returns-in-Constructor-clause-means
+returns-in-Constructor-clause-means c = λ t. rw (c.in-Constructor.is, c.new.ensures) refl
+
+pub returns-in-Callee-clause-means : goal.returns-in-Callee-clause-means
+returns-in-Callee-clause-means c = λ t. rw (c.in-Callee.is, c.new-in-Callee.ensures) refl
+
+pub returns-in-Operand-clause-means : goal.returns-in-Operand-clause-means
+returns-in-Operand-clause-means c = λ t. rw c.in-Operand.is refl
+
+pub returns-in-Left-clause-means : goal.returns-in-Left-clause-means
+returns-in-Left-clause-means c = λ t. rw c.in-Left.is refl
+
+pub returns-in-Right-clause-means : goal.returns-in-Right-clause-means
+returns-in-Right-clause-means c = λ t. rw c.in-Right.is refl
+
+pub returns-in-Logical-clause-means : goal.returns-in-Logical-clause-means
+returns-in-Logical-clause-means c = λ t. rw c.in-Logical.is (c.logical.ensures.means t)
+
+pub returns-in-Conditional-clause-means : goal.returns-in-Conditional-clause-means
+returns-in-Conditional-clause-means c = λ t. rw c.in-Conditional.is (c.choose.ensures.means t)
+
+pub returns-in-Comma-clause-means : goal.returns-in-Comma-clause-means
+returns-in-Comma-clause-means c = λ t. rw c.in-Comma.is refl
+
+pub returns-in-ReferNamed-clause-means : goal.returns-in-ReferNamed-clause-means
+returns-in-ReferNamed-clause-means c = λ t. rw c.in-ReferNamed.is refl
+
+pub returns-in-ReferObject-clause-means : goal.returns-in-ReferObject-clause-means
+returns-in-ReferObject-clause-means c = λ t. rw c.in-ReferObject.is refl
+
+pub returns-in-ReferKey-clause-means : goal.returns-in-ReferKey-clause-means
+returns-in-ReferKey-clause-means c = λ t. rw c.in-ReferKey.is refl
+
+pub returns-in-Put-clause-means : goal.returns-in-Put-clause-means
+returns-in-Put-clause-means c = λ t. rw c.in-Put.is (c.put.ensures.means t)
+
+pub returns-in-Old-clause-means : goal.returns-in-Old-clause-means
+returns-in-Old-clause-means c = λ t. rw c.in-Old.is refl
+
+pub returns-in-New-clause-means : goal.returns-in-New-clause-means
+returns-in-New-clause-means c = λ t. rw c.in-New.is refl
+
+pub returns-in-Update-clause-means : goal.returns-in-Update-clause-means
+returns-in-Update-clause-means c = λ t. rw c.in-Update.is (c.update.ensures.means t)
+
+pub returns-in-Instead-clause-means : goal.returns-in-Instead-clause-means
+returns-in-Instead-clause-means c = λ t. rw c.in-Instead.is refl
+
+pub returns-in-TemplatePart-clause-means : goal.returns-in-TemplatePart-clause-means
+returns-in-TemplatePart-clause-means c = rw c.in-TemplatePart.is c.template_text.ensures.means
+
+pub returns-in-TemplatePart-clause-less : goal.returns-in-TemplatePart-clause-less
+returns-in-TemplatePart-clause-less c = rw c.in-TemplatePart.is c.template_text.ensures.less
+
+pub returns-in-Property-clause-means : goal.returns-in-Property-clause-means
+returns-in-Property-clause-means c = λ t. rw c.in-Property.is refl
+
+pub returns-in-As-clause-means : goal.returns-in-As-clause-means
+returns-in-As-clause-means c = λ t. rw c.in-As.is refl
+
+pub returns-in-Key-clause-means : goal.returns-in-Key-clause-means
+returns-in-Key-clause-means c = rw c.in-Key.is c.key_text.ensures.means
+
+pub returns-in-Key-clause-less : goal.returns-in-Key-clause-less
+returns-in-Key-clause-less c = rw c.in-Key.is c.key_text.ensures.less
+
+pub returns-in-BindTo-clause-means : goal.returns-in-BindTo-clause-means
+returns-in-BindTo-clause-means c = λ t. rw c.in-BindTo.is (c.bind_to.ensures.means t)
+
+pub returns-in-Declarator-clause-means : goal.returns-in-Declarator-clause-means
+returns-in-Declarator-clause-means c = λ t. rw c.in-Declarator.is refl
+
+pub returns-in-Discard-clause-means : goal.returns-in-Discard-clause-means
+returns-in-Discard-clause-means c = λ t. rw (c.in-Discard.is, c.undefined.ensures) refl
+
+pub returns-in-Statement-clause-means : goal.returns-in-Statement-clause-means
+returns-in-Statement-clause-means c = λ t. rw c.in-Statement.is refl
+
+pub returns-in-Choose-clause-means : goal.returns-in-Choose-clause-means
+returns-in-Choose-clause-means c = λ t. rw c.in-Choose.is (c.choose_statement.ensures.means t)
+
+pub returns-in-Turn-clause-means : goal.returns-in-Turn-clause-means
+returns-in-Turn-clause-means c = λ t. rw c.in-Turn.is (c.turn.ensures.means t)
+
+pub returns-in-Started-clause-means : goal.returns-in-Started-clause-means
+returns-in-Started-clause-means c = λ t. rw c.in-Started.is refl
+
+pub returns-in-Updated-clause-means : goal.returns-in-Updated-clause-means
+returns-in-Updated-clause-means c = λ t. rw c.in-Updated.is refl
+
+pub returns-in-Subject-clause-means : goal.returns-in-Subject-clause-means
+returns-in-Subject-clause-means c = λ t. rw c.in-Subject.is (c.subject.ensures.means t)
+
+pub returns-in-Taken-clause-means : goal.returns-in-Taken-clause-means
+returns-in-Taken-clause-means c = λ t. rw c.in-Taken.is (c.take_pass.ensures.means t c.args.value)
+
+pub returns-in-Switch-clause-means : goal.returns-in-Switch-clause-means
+returns-in-Switch-clause-means c = λ t. rw c.in-Switch.is refl
+
+pub returns-in-Tested-clause-means : goal.returns-in-Tested-clause-means
+returns-in-Tested-clause-means c = λ t. rw c.in-Tested.is (c.tested.ensures.means t)
+
+pub returns-in-Fallen-clause-means : goal.returns-in-Fallen-clause-means
+returns-in-Fallen-clause-means c = λ t. rw c.in-Fallen.is refl
+
+pub returns-in-Return-clause-means : goal.returns-in-Return-clause-means
+returns-in-Return-clause-means c = λ t. rw c.in-Return.is refl
+
+pub returns-in-Throw-clause-means : goal.returns-in-Throw-clause-means
+returns-in-Throw-clause-means c = λ t. rw c.in-Throw.is refl
+
+pub returns-in-OwnName-clause-means : goal.returns-in-OwnName-clause-means
+returns-in-OwnName-clause-means c = λ t. rw c.in-OwnName.is refl
+
+pub returns-in-Param-clause-means : goal.returns-in-Param-clause-means
+returns-in-Param-clause-means c = λ t. rw c.in-Param.is refl
+
+pub returns-in-NextParam-clause-means : goal.returns-in-NextParam-clause-means
+returns-in-NextParam-clause-means c = λ t. rw c.in-NextParam.is (c.next_param.ensures.means t c.args.value)
+
+pub returns-in-Bound-clause-means : goal.returns-in-Bound-clause-means
+returns-in-Bound-clause-means c = λ t. rw c.in-Bound.is refl
+
+pub returns-in_ok-push-in-Item-clause-means : goal.returns-in_ok-push-in-Item-clause-means
+returns-in_ok-push-in-Item-clause-means c = λ t. rw (c.in-Item.is, c.in_ok-push-in-Item.ensures.ok) refl

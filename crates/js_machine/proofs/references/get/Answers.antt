@@ -1,0 +1,8 @@
+use Rattle.std.proofs.Common.{refl}
+use Rattle.js_machine.proofs.references.get.Goals as goal
+
+pub returns-in-Name-clause-means : goal.returns-in-Name-clause-means
+returns-in-Name-clause-means c = λ t. rw c.in-Name.is refl
+
+pub returns-in-Member-clause-means : goal.returns-in-Member-clause-means
+returns-in-Member-clause-means c = λ t. rw c.in-Member.is refl

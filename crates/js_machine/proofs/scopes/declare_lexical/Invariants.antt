@@ -1,0 +1,7 @@
+use Rattle.std.proofs.Common.{◌≡◌, drop}
+use Rattle.js_heap.specs.Heap.{heap_of}
+use Rattle.js_value.specs.Environments.{declare_all}
+use Rattle.js_machine.proofs.scopes.declare_lexical.Given as goal
+
+abbrev pub invariant-loop-name : goal.invariant-loop-name
+invariant-loop-name l = declare_all l.env.index (drop l.name-index l.names) (heap_of l.heap) ≡ declare_all l.env.index l.names (heap_of l.fn.heap)

@@ -1,0 +1,9 @@
+use Rattle.std.proofs.Common.{refl}
+use Rattle.js_machine.proofs.OtherNodes as other
+use Rattle.js_machine.proofs.statements.begin_declarators.Goals as goal
+
+pub returns-in-Some-clause-means : goal.returns-in-Some-clause-means
+returns-in-Some-clause-means c = λ t. rw c.in-Some.ensures.more refl
+
+pub returns-in-None-clause-means : goal.returns-in-None-clause-means
+returns-in-None-clause-means c = λ t. rw (c.undefined.ensures, other.no_declarators t.tree c.args.node.now (c.list_of.ensures.end c.in-None.is)) refl

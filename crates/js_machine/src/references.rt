@@ -1,0 +1,312 @@
+// References: what an expression is that can be read and assigned to, and what is done with it.
+
+ghost use Rattle.std.specs.Prelude.{◌≡◌, ◌<◌, ◌+◌, ◌*◌, None, Option, IfOk};
+ghost use Rattle.js_tree.specs.declared.place.Loc.{Loc};
+ghost use Rattle.js_tree.specs.Plain.{FunctionExpression};
+ghost use Rattle.js_tree.specs.declared.operators.UnaryOperator.TheVariants as unary_operator;
+ghost use Rattle.js_code.specs.Node.{build, function_of};
+ghost use Rattle.js_code.specs.Part.{as_code, as_expr};
+ghost use Rattle.js_meaning.specs.Effects.{handle};
+ghost use Rattle.js_meaning.specs.Meaning as M;
+ghost use Rattle.js_machine.specs.private.Config.{View, name_of, step_comp, control_comp, frame_comp, pending_comp, reference_of, referred, otherwise, units_of, expr_at};
+ghost use Rattle.js_machine.specs.private.Weight.{Weights, node_weight, step_weight, referring_weight, control_weight};
+
+use crate::copies::copy_reference;
+use crate::data::{Action, Control, Frame, Pending, Step, Task};
+use crate::parts::{Form, MemberKey, Reference, Referring, Title};
+use items::Memory;
+use js_code::Node;
+use js_heap::Env;
+use js_tree::{BinaryOperator, Identifier, UnaryOperator};
+use js_value::{Complaint, Primitive, Value};
+
+/// The expression at a place begins, for the reference that it is.
+pub fn begin_reference(node: &Node, place: usize, env: Env, next: Referring) -> Step
+    ensures means { (t : View) → t.name place ≡ name_of node.now → t.tree place ≡ build t.tree node.now →
+        step_comp t result ≡ M.comp_reference t.program (as_expr (build t.tree node.now)) env.index (otherwise t next (as_expr (build t.tree node.now)) env.index) (referred t next env.index) }
+    ensures less { (w : Weights) → step_weight w result < w place + node_weight w node.now + referring_weight w next }
+{
+    match node {
+        Node::IdentifierReference { .. } => Step::Go(Control::Begin(Task::Referred {
+            next,
+            env,
+            reference: Reference::Name(place),
+        })),
+        Node::NamedMember { object, .. } => Step::Push(
+            Frame::Value(Pending::ReferNamed {
+                name: place,
+                env,
+                next,
+            }),
+            Control::Begin(Task::Evaluate {
+                place: *object,
+                env,
+            }),
+        ),
+        Node::ComputedMember { object, key, .. } => Step::Push(
+            Frame::Value(Pending::ReferObject {
+                key: *key,
+                env,
+                next,
+            }),
+            Control::Begin(Task::Evaluate {
+                place: *object,
+                env,
+            }),
+        ),
+        Node::Parenthesized { inner, .. } => Step::Go(Control::Begin(Task::Refer {
+            place: *inner,
+            env,
+            next,
+        })),
+        _ => no_reference(next, place, env),
+    }
+}
+
+// Where an expression is no reference.
+fn no_reference(next: Referring, place: usize, env: Env) -> Step
+    ensures means { (t : View) → step_comp t result ≡ otherwise t next (expr_at t place) env.index }
+    ensures less { (w : Weights) → step_weight w result < w place + referring_weight w next }
+{
+    match next {
+        Referring::Call { arguments } => Step::Push(
+            Frame::Value(Pending::Callee {
+                arguments,
+                env,
+                this: Value::Primitive(Primitive::Undefined),
+            }),
+            Control::Begin(Task::Evaluate { place, env }),
+        ),
+        Referring::Delete => Step::Push(
+            Frame::Value(Pending::Operand {
+                operator: UnaryOperator::Delete,
+            }),
+            Control::Begin(Task::Evaluate { place, env }),
+        ),
+        Referring::Update { .. } => not_assignable(),
+        Referring::Assign { .. } => not_assignable(),
+        Referring::Take { .. } => not_assignable(),
+    }
+}
+
+// The error that nothing can be assigned to what is no reference.
+fn not_assignable() -> Step
+    ensures { result ≡ Step.Go (Control.Do (Action.Throw Complaint.NotAssignable)) }
+{
+    Step::Go(Control::Do(Action::Throw(Complaint::NotAssignable)))
+}
+
+/// A reference is there.
+pub fn begin_referred(next: Referring, env: Env, reference: Reference) -> Result<Step, Memory>
+    ensures means { IfOk result (λ step. (t : View) → step_comp t step ≡ referred t next env.index (reference_of t reference)) }
+    ensures less { IfOk result (λ step. (w : Weights) → step_weight w step < referring_weight w next) }
+{
+    match next {
+        Referring::Call { arguments } => call_reference(arguments, env, reference),
+        Referring::Update { prefix, operator } => {
+            let same = copy_reference(&reference)?;
+            Ok(Step::Push(
+                Frame::Value(Pending::Update {
+                    prefix,
+                    operator,
+                    reference: same,
+                    env,
+                }),
+                get(reference, env),
+            ))
+        }
+        Referring::Delete => Ok(Step::Go(Control::Do(Action::Delete(reference)))),
+        Referring::Assign { operator, value } => assign(operator, value, env, reference),
+        Referring::Take { value, round, rest } => Ok(Step::Push(
+            Frame::Value(Pending::Taken {
+                round,
+                inner: env,
+                rest,
+            }),
+            put(reference, env, value),
+        )),
+    }
+}
+
+// A reference is read for a call, whose `this` is the object of a member.
+fn call_reference(arguments: usize, env: Env, reference: Reference) -> Result<Step, Memory>
+    ensures means { IfOk result (λ step. (t : View) → step_comp t step ≡ referred t (Referring.Call arguments) env.index (reference_of t reference)) }
+    ensures less { IfOk result (λ step. (w : Weights) → step_weight w step < w arguments + 5) }
+{
+    match reference {
+        Reference::Name(name) => Ok(Step::Push(
+            Frame::Value(Pending::Callee {
+                arguments,
+                env,
+                this: Value::Primitive(Primitive::Undefined),
+            }),
+            Control::Do(Action::Read { name, env }),
+        )),
+        Reference::Member { base, key } => {
+            let this = base.copy()?;
+            Ok(Step::Push(
+                Frame::Value(Pending::Callee {
+                    arguments,
+                    env,
+                    this,
+                }),
+                Control::Do(Action::GetMember { base, key }),
+            ))
+        }
+    }
+}
+
+// An assignment: by an operator the old value is read first.
+fn assign(
+    operator: Option<BinaryOperator>,
+    value: usize,
+    env: Env,
+    reference: Reference,
+) -> Result<Step, Memory>
+    ensures means { IfOk result (λ step. (t : View) → step_comp t step ≡ referred t (Referring.Assign operator value) env.index (reference_of t reference)) }
+    ensures less { IfOk result (λ step. (w : Weights) → step_weight w step < 2 * w value + 10) }
+{
+    match operator {
+        None => Ok(assign_plainly(value, env, reference)),
+        Some(operator) => {
+            let same = copy_reference(&reference)?;
+            Ok(Step::Push(
+                Frame::Value(Pending::Old {
+                    operator,
+                    value,
+                    reference: same,
+                    env,
+                }),
+                get(reference, env),
+            ))
+        }
+    }
+}
+
+// An assignment without an operator: a name names its value.
+fn assign_plainly(value: usize, env: Env, reference: Reference) -> Step
+    ensures means { (t : View) → step_comp t result ≡ referred t (Referring.Assign None value) env.index (reference_of t reference) }
+    ensures less { (w : Weights) → step_weight w result < 2 * w value + 10 }
+{
+    match reference {
+        Reference::Name(name) => Step::Push(
+            Frame::Value(Pending::Put {
+                reference: Reference::Name(name),
+                env,
+            }),
+            Control::Begin(Task::EvaluateNamed {
+                title: Title::Name(name),
+                place: value,
+                env,
+            }),
+        ),
+        Reference::Member { base, key } => Step::Push(
+            Frame::Value(Pending::Put {
+                reference: Reference::Member { base, key },
+                env,
+            }),
+            Control::Begin(Task::Evaluate { place: value, env }),
+        ),
+    }
+}
+
+/// The value of a reference.
+pub fn get(reference: Reference, env: Env) -> Control
+    ensures means { (t : View) → control_comp t result ≡ M.get_value env.index (reference_of t reference) }
+    ensures less { (w : Weights) → control_weight w result ≡ 2 }
+{
+    match reference {
+        Reference::Name(name) => Control::Do(Action::Read { name, env }),
+        Reference::Member { base, key } => Control::Do(Action::GetMember { base, key }),
+    }
+}
+
+/// A value for a reference.
+pub fn put(reference: Reference, env: Env, value: Value) -> Control
+    ensures means { (t : View) → control_comp t result ≡ M.put_value env.index (reference_of t reference) value }
+    ensures less { (w : Weights) → control_weight w result ≡ 2 }
+{
+    match reference {
+        Reference::Name(name) => Control::Do(Action::Write { name, env, value }),
+        Reference::Member { base, key } => Control::Do(Action::PutMember { base, key, value }),
+    }
+}
+
+/// The expression at a place begins, where a name is given to it.
+pub fn begin_named(node: &Node, title: Title, place: usize, env: Env) -> Step
+    ensures means { (t : View) → t.tree place ≡ build t.tree node.now →
+        step_comp t result ≡ M.named (units_of t title) (as_expr (build t.tree node.now)) env.index (M.comp_expr t.program (as_expr (build t.tree node.now)) env.index) }
+    ensures less { (w : Weights) → step_weight w result < w place + node_weight w node.now }
+{
+    match node {
+        Node::FunctionExpression { name, function, .. } => {
+            begin_function_named(name, *function, title, place, env)
+        }
+        Node::ArrowFunction { function, .. } => Step::Go(Control::Do(Action::Close {
+            form: Form::Arrow,
+            function: *function,
+            title,
+            env,
+        })),
+        Node::Parenthesized { inner, .. } => Step::Go(Control::Begin(Task::EvaluateNamed {
+            title,
+            place: *inner,
+            env,
+        })),
+        _ => {
+            drop(title);
+            Step::Go(Control::Begin(Task::Evaluate { place, env }))
+        }
+    }
+}
+
+// A function gets the name where it has none of its own.
+fn begin_function_named(
+    own: &Option<Identifier>,
+    function: usize,
+    title: Title,
+    place: usize,
+    env: Env,
+) -> Step
+    ensures means { (t : View) (loc : Option Loc) → expr_at t place ≡ FunctionExpression loc own.now (function_of (as_code (t.tree function))) →
+        step_comp t result ≡ M.named (units_of t title) (FunctionExpression loc own.now (function_of (as_code (t.tree function)))) env.index
+        (M.comp_expr t.program (FunctionExpression loc own.now (function_of (as_code (t.tree function)))) env.index) }
+    ensures less { (w : Weights) → step_weight w result < w place + 8 }
+{
+    match own {
+        None => Step::Go(Control::Do(Action::Close {
+            form: Form::Ordinary,
+            function,
+            title,
+            env,
+        })),
+        Some(_) => {
+            drop(title);
+            Step::Go(Control::Begin(Task::Evaluate { place, env }))
+        }
+    }
+}
+
+/// The expression at a place begins, for its type: it may be a name that is not there.
+pub fn begin_type_of(node: &Node, place: usize, env: Env) -> Step
+    ensures means { (t : View) → t.name place ≡ name_of node.now → t.tree place ≡ build t.tree node.now →
+        step_comp t result ≡ M.if_there (M.name_of (as_expr (build t.tree node.now))) env.index
+        (handle (M.comp_expr t.program (as_expr (build t.tree node.now)) env.index) (M.with_value (M.operated_unary unary_operator.TypeOf))) }
+    ensures less { (w : Weights) → step_weight w result < w place + node_weight w node.now + 4 }
+{
+    match node {
+        Node::IdentifierReference { .. } => {
+            Step::Go(Control::Do(Action::TypeOfName { name: place, env }))
+        }
+        Node::Parenthesized { inner, .. } => Step::Go(Control::Begin(Task::TypeOf {
+            place: *inner,
+            env,
+        })),
+        _ => Step::Push(
+            Frame::Value(Pending::Operand {
+                operator: UnaryOperator::TypeOf,
+            }),
+            Control::Begin(Task::Evaluate { place, env }),
+        ),
+    }
+}
