@@ -1,0 +1,9 @@
+pub mod Represents
+pub mod Steady
+pub mod Literals
+pub mod First
+pub mod Preamble
+pub mod Laws
+pub mod Starts
+pub mod WorkedFile
+pub mod Keys
