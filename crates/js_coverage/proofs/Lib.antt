@@ -1,0 +1,2 @@
+mod CoverageWorked
+mod Levels
