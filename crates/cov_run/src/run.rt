@@ -5,9 +5,8 @@ ghost use Rattle.js_machine.specs.Whole.{Begins};
 ghost use Rattle.cov_run.specs.Exec.{one_file, run_of};
 
 use items::{Items, Memory, Text};
-use js_machine::{Machine, MachineFault};
+use js_machine::{Machine, MachineFault, prelude};
 use js_meaning::{End, Program, ProgramFile};
-use js_prelude::prelude;
 use js_scopes::Checked;
 use std::alloc::{AllocError, Global};
 

@@ -45,6 +45,7 @@ module _ (steps : ℕ) (old new : Whole) (rest : Rest) (end : End)
         is = ap (option_map (λ file. plainly (meaning (uncounted p) file new.given))) f.found;
         end = ap (λ r. end_of r.outcome r.store) all ∙ sym (ended f.began);
         output = ap (λ r. r.store.output) all;
+        heap = ap (λ r. r.store.heap) all;
       }
 
   pub goes : Goes old end new

@@ -1,6 +1,6 @@
 -- What callers see of the machine.
 use Rattle.std.specs.Prelude.{◌≡◌, ℕ, ◌+◌, Bool, false, List, [], Some}
-use Rattle.js_value.specs.State.{Store}
+use Rattle.js_value.specs.State.{Heap, Store}
 use Rattle.js_code.specs.Program.{ProgramCode, IsCodeOf}
 use Rattle.js_meaning.specs.declared.outcome.End.{End}
 use Rattle.js_meaning.specs.Effects.{exec}
@@ -20,6 +20,10 @@ pub record Whole : Type 0 where
 
 abbrev pub output_of : Whole → List ℕ
 output_of m = m.here.state.output
+
+-- its objects and environments
+abbrev pub heap_in : Whole → Heap
+heap_in m = m.here.state.heap
 
 -- the program as it runs where nothing is counted
 abbrev pub running : Sources → Sources
@@ -42,12 +46,14 @@ pub record Begins (p : Sources) (path : List ℕ) (m : Whole) : Type 0 where
   pub printed : output_of m ≡ []
   pub lost : m.lost ≡ false
 
--- the file at the path, run without counting with all the steps that were given, ends like this, and prints what was printed
+-- the file at the path, run without counting with all the steps that were given, ends like this, prints what was printed, and leaves
+-- the heap that is there
 pub record EndsAs (p : Sources) (path : List ℕ) (last : End) (m : Whole) : Type 0 where
   pub run : PlainRun
   pub is : plain p path m.given ≡ Some run
   pub end : run.end ≡ last
   pub output : run.store.output ≡ output_of m
+  pub heap : run.store.heap ≡ heap_in m
 
 -- a run of a machine that followed a file follows it on, and ends as the file does
 pub record Goes (old : Whole) (last : End) (new : Whole) : Type 0 where

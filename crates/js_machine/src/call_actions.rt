@@ -22,6 +22,7 @@ use js_heap::{Env, Heap, ObjectKind};
 use js_value::{Complaint, Object, Primitive, Value};
 
 /// A call: a step is asked for once the callee is found callable.
+#[inline(never)]
 pub fn call(heap: &Heap, callee: Value, this: Value, arguments: Items<Value>) -> Control
     ensures means { (t : View) → control_comp t result ≡ called_in (heap_of heap.now) callee this arguments }
     ensures less { (w : Weights) → control_weight w result < 2 }
@@ -69,6 +70,7 @@ fn not_a_function() -> Control
 }
 
 /// A construction: a step is asked for once the maker is found to be a constructor.
+#[inline(never)]
 pub fn construct(code: &Code, heap: &Heap, maker: Value, arguments: Items<Value>) -> Control
     ensures means { (p : Sources) → IsCodeOf p code.now →
         control_comp (view_of p code.now.nodes) result ≡ constructed_in p (heap_of heap.now) maker arguments }

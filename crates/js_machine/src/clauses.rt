@@ -17,6 +17,7 @@ use js_heap::Env;
 use js_value::Value;
 
 /// The clauses that are left begin, for one whose test is equal to the value: where there is none, `default` begins.
+#[inline(never)]
 pub fn begin_select(node: &Node, all: usize, value: Value, env: Env) -> Step
     ensures means { (t : View) → step_comp t result
         ≡ M.comp_select t.program (as_cases (build t.tree node.now)) env.index value (M.comp_default t.program (as_cases (t.tree all)) env.index) }
@@ -38,6 +39,7 @@ pub fn begin_select(node: &Node, all: usize, value: Value, env: Env) -> Step
 }
 
 /// A clause begins with its test; `default` has none.
+#[inline(never)]
 pub fn begin_select_case(
     test: Option<usize>,
     statements: usize,
@@ -72,6 +74,7 @@ pub fn begin_select_case(
 }
 
 /// The clauses from `default` on begin.
+#[inline(never)]
 pub fn begin_default(node: &Node, env: Env) -> Step
     ensures means { (t : View) → step_comp t result ≡ M.comp_default t.program (as_cases (build t.tree node.now)) env.index }
     ensures less { (w : Weights) → step_weight w result < node_weight w node.now }
@@ -87,6 +90,7 @@ pub fn begin_default(node: &Node, env: Env) -> Step
 }
 
 /// A clause begins, if it is `default`, and else those after it.
+#[inline(never)]
 pub fn begin_default_case(test: Option<usize>, statements: usize, rest: usize, env: Env) -> Step
     ensures means { (t : View) (loc : Option Loc) → step_comp t result
         ≡ M.comp_default t.program (P.more_case (P.MakeCase loc (expr_or t test) (stmts_at t statements)) (as_cases (t.tree rest))) env.index }
@@ -105,6 +109,7 @@ pub fn begin_default_case(test: Option<usize>, statements: usize, rest: usize, e
 }
 
 /// Clauses begin, one after another.
+#[inline(never)]
 pub fn begin_clauses(node: &Node, env: Env) -> Step
     ensures means { (t : View) → step_comp t result ≡ M.comp_cases t.program (as_cases (build t.tree node.now)) env.index }
     ensures less { (w : Weights) → step_weight w result < node_weight w node.now }
@@ -119,6 +124,7 @@ pub fn begin_clauses(node: &Node, env: Env) -> Step
 }
 
 /// The statements of a clause begin.
+#[inline(never)]
 pub fn begin_clause(node: &Node, env: Env) -> Step
     ensures means { (t : View) → step_comp t result ≡ M.comp_case t.program (as_case (build t.tree node.now)) env.index }
     ensures less { (w : Weights) → step_weight w result < node_weight w node.now }

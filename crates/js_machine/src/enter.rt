@@ -33,6 +33,7 @@ use js_value::{Complaint, Object, Primitive, Value};
 use std::alloc::Global;
 
 /// Takes a step that is asked for.
+#[inline(never)]
 pub fn enter(alloc: Global, code: &Code, state: &mut State, entry: Entry) -> Result<Step, Memory>
     ensures { IfOk result (λ step. (p : Sources) (base : Store) → Carries p code.now →
         Becomes (F.inside p (entry_of (view_of p code.now.nodes) entry)) (store_in base state.old) (step_comp (view_of p code.now.nodes) step) (store_in base state.new)) }

@@ -20,6 +20,7 @@ use js_value::Primitive;
 use std::alloc::Global;
 
 /// The expression at a place begins.
+#[inline(never)]
 pub fn begin_expression(alloc: Global, node: &Node, place: usize, env: Env) -> Result<Step, Memory>
     ensures means { IfOk result (λ step. (t : View) → t.name place ≡ name_of node.now →
         step_comp t step ≡ comp_expr t.program (as_expr (build t.tree node.now)) env.index) }

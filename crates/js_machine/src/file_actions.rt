@@ -36,6 +36,7 @@ use path_globs::resolve;
 use std::alloc::Global;
 
 /// A file starts: its objects are made, it comes into the cache, and its names are made.
+#[inline(never)]
 pub fn start_file(
     alloc: Global,
     code: &Code,
@@ -177,6 +178,7 @@ fn put_object(
 }
 
 /// What a file gives that was required: the property `exports` of its `module`.
+#[inline(never)]
 pub fn exports(alloc: Global, state: &State, path: &str) -> Result<Control, Memory>
     ensures means { IfOk result (λ control. (t : View) (base : Store) → control_comp t control
         ≡ M.give (F.exports_in (heap_of state.now.heap) (cached_in (store_in base state.now) path.now))) }
@@ -207,6 +209,7 @@ fn cached(state: &State, path: &str) -> Option<Object>
 }
 
 /// A file leaves the cache.
+#[inline(never)]
 pub fn leave_cache(state: &mut State, path: &str)
     ensures { (base : Store) → store_in base state.new ≡ left_cache path.now (store_in base state.old) }
 {
@@ -214,6 +217,7 @@ pub fn leave_cache(state: &mut State, path: &str)
 }
 
 /// The path of a file.
+#[inline(never)]
 pub fn path_at<'a>(code: &'a Code, file: usize) -> &'a str
     ensures { (p : Sources) → IsCodeOf p code.now → result.now ≡ path_told p file }
 {
@@ -224,6 +228,7 @@ pub fn path_at<'a>(code: &'a Code, file: usize) -> &'a str
 }
 
 /// `require` of a text by an object `require`.
+#[inline(never)]
 pub fn require(
     alloc: Global,
     code: &Code,

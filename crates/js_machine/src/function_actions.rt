@@ -24,6 +24,7 @@ use js_value::{Complaint, ErrorKind, Object, Primitive, Str, Value};
 use std::alloc::Global;
 
 /// Makes the function with its code at a place.
+#[inline(never)]
 pub fn close(
     alloc: Global,
     code: &Code,
@@ -66,6 +67,7 @@ fn shape(form: Form, number: u64, length: usize) -> Shape
 }
 
 /// Makes the environment of a call: `this`, but in an arrow function, and the parameters.
+#[inline(never)]
 pub fn start_call(
     alloc: Global,
     code: &Code,
@@ -139,6 +141,7 @@ fn put_names(alloc: Global, more: &[Name], names: &mut Items<Binding>) -> Result
 }
 
 /// Makes an error with this message.
+#[inline(never)]
 pub fn make_error(
     alloc: Global,
     heap: &mut Heap,
@@ -164,6 +167,7 @@ pub fn make_error(
 }
 
 /// Makes the error of a complaint.
+#[inline(never)]
 pub fn make_complaint(
     alloc: Global,
     heap: &mut Heap,

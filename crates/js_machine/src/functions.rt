@@ -21,6 +21,7 @@ use js_heap::Env;
 use js_value::{Primitive, Value};
 
 /// The parameters of a function begin, before its body.
+#[inline(never)]
 pub fn begin_parameters(node: &Node, function: usize, arguments: Items<Value>, env: Env) -> Step
     ensures means { (t : View) → step_comp t result ≡
         handle (M.comp_params t.program (params_of (as_code (build t.tree node.now))) env.index arguments) (M.with_value (λ v. body_comp t function env.index)) }
@@ -53,6 +54,7 @@ fn bind_all(params: usize, function: usize, arguments: Items<Value>, env: Env) -
 }
 
 /// The parameters that are left begin.
+#[inline(never)]
 pub fn begin_params(node: &Node, arguments: Items<Value>, next: usize, env: Env) -> Step
     ensures means { (t : View) → step_comp t result ≡ M.comp_params t.program (as_params (build t.tree node.now)) env.index (dropped next arguments) }
     ensures less { (w : Weights) → step_weight w result < node_weight w node.now }
@@ -73,6 +75,7 @@ pub fn begin_params(node: &Node, arguments: Items<Value>, next: usize, env: Env)
 }
 
 /// A parameter takes its argument, or its default where that is undefined.
+#[inline(never)]
 pub fn begin_param(
     name: usize,
     default: Option<usize>,
@@ -186,6 +189,7 @@ fn is_undefined_primitive(primitive: &Primitive) -> bool
 }
 
 /// The body of a function begins.
+#[inline(never)]
 pub fn begin_body(node: &Node, env: Env) -> Step
     ensures means { (t : View) → step_comp t result ≡ M.comp_concise t.program (arrow_body (as_code (build t.tree node.now))) env.index }
     ensures less { (w : Weights) → step_weight w result < node_weight w node.now }

@@ -39,4 +39,6 @@ mod statements;
 mod steps;
 mod turns;
 
+pub use js_coverage::DataFault;
+pub use js_prelude::prelude;
 pub use machine::{Machine, MachineFault};

@@ -21,6 +21,7 @@ use js_value::{Kind, Object, Primitive, Str, Value, show_number};
 use std::alloc::Global;
 
 /// The expressions of a list that are left begin, or what is done with their values.
+#[inline(never)]
 pub fn begin_list(node: &Node, env: Env, values: Items<Value>, gathering: Gathering) -> Step
     ensures means { (t : View) → step_comp t result ≡ M.comp_values t.program (as_exprs (build t.tree node.now)) env.index values (gathered t gathering) }
     ensures less { (w : Weights) → step_weight w result < node_weight w node.now }
@@ -40,6 +41,7 @@ pub fn begin_list(node: &Node, env: Env, values: Items<Value>, gathering: Gather
 }
 
 /// The parts of a template that are left begin, or the whole text is there.
+#[inline(never)]
 pub fn begin_template(node: &Node, env: Env, units: Str) -> Step
     ensures means { (t : View) → step_comp t result ≡ M.comp_template_parts t.program (as_template_parts (build t.tree node.now)) env.index units }
     ensures less { (w : Weights) → step_weight w result < node_weight w node.now }
@@ -58,6 +60,7 @@ pub fn begin_template(node: &Node, env: Env, units: Str) -> Step
 }
 
 /// A part of a template begins.
+#[inline(never)]
 pub fn begin_template_part(node: &Node, part: usize, rest: usize, env: Env, units: Str) -> Step
     ensures means { (t : View) → t.tree part ≡ build t.tree node.now →
         step_comp t result ≡ M.comp_template_parts t.program (P.more_template_part (as_template_part (build t.tree node.now)) (as_template_parts (t.tree rest))) env.index units }
@@ -82,6 +85,7 @@ pub fn begin_template_part(node: &Node, part: usize, rest: usize, env: Env, unit
 }
 
 /// The properties of an object that are left begin, or the object is given.
+#[inline(never)]
 pub fn begin_properties(node: &Node, env: Env, object: Object) -> Step
     ensures means { (t : View) → step_comp t result ≡ M.comp_properties t.program (as_properties (build t.tree node.now)) env.index object.index }
     ensures less { (w : Weights) → step_weight w result < node_weight w node.now }
@@ -100,6 +104,7 @@ pub fn begin_properties(node: &Node, env: Env, object: Object) -> Step
 }
 
 /// A property begins.
+#[inline(never)]
 pub fn begin_property(node: &Node, place: usize, env: Env, object: Object) -> Step
     ensures means { (t : View) → t.name place ≡ name_of node.now → t.name NOWHERE ≡ [] →
         step_comp t result ≡ M.comp_property t.program (as_property (build t.tree node.now)) env.index object.index }
@@ -140,6 +145,7 @@ pub fn begin_property(node: &Node, place: usize, env: Env, object: Object) -> St
 }
 
 /// The key of a property begins.
+#[inline(never)]
 pub fn begin_key(
     alloc: Global,
     node: &Node,
@@ -199,6 +205,7 @@ fn begin_number_key(
 }
 
 /// What a key is for begins.
+#[inline(never)]
 pub fn begin_keyed(next: Keying, env: Env, key: Title) -> Result<Step, Memory>
     ensures means { IfOk result (λ step. (t : View) → step_comp t step ≡ keyed t next env.index (units_of t key)) }
     ensures less { IfOk result (λ step. (w : Weights) → step_weight w step < keying_weight w next) }

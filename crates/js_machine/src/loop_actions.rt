@@ -19,6 +19,7 @@ use js_value::{Primitive, Value};
 use std::alloc::Global;
 
 /// The next key or item, or the end of the loop.
+#[inline(never)]
 pub fn go_through(
     alloc: Global,
     heap: &Heap,
@@ -39,6 +40,7 @@ pub fn go_through(
 }
 
 /// The keys of a value are found.
+#[inline(never)]
 pub fn go_through_keys(
     alloc: Global,
     heap: &Heap,
@@ -54,6 +56,7 @@ pub fn go_through_keys(
 }
 
 /// The items of a value are found.
+#[inline(never)]
 pub fn go_through_items(heap: &Heap, round: Loop, value: &Value) -> Result<Control, Memory>
     ensures means { IfOk result (λ control. (t : View) → control_comp t control
         ≡ M.or_halt (iterated (heap_of heap.now) value.now) (goes_through t round)) }

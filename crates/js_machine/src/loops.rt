@@ -17,6 +17,7 @@ use js_host::Iteration;
 use js_value::{Complaint, Value};
 
 /// The test of a loop begins: without one there is always another turn.
+#[inline(never)]
 pub fn begin_test(test: Option<usize>, statement: usize, labels: Labels, env: Env) -> Step
     ensures means { (t : View) → step_comp t result ≡ M.turn_if t.program (expr_or t test) (stmt_at t statement) (labels_of t labels) env.index }
     ensures less { (w : Weights) → step_weight w result < test_weight w test }
@@ -39,6 +40,7 @@ pub fn begin_test(test: Option<usize>, statement: usize, labels: Labels, env: En
 }
 
 /// A loop goes on after a turn.
+#[inline(never)]
 pub fn begin_again(node: &Node, statement: usize, labels: Labels, env: Env) -> Step
     ensures means { (t : View) → t.tree statement ≡ build t.tree node.now →
         step_comp t result ≡ again t (as_stmt (build t.tree node.now)) (labels_of t labels) env.index }
@@ -77,6 +79,7 @@ pub fn begin_again(node: &Node, statement: usize, labels: Labels, env: Env) -> S
 }
 
 /// The target of a loop takes the next value.
+#[inline(never)]
 pub fn begin_take(node: &Node, round: Loop, value: Value, rest: Iteration) -> Step
     ensures means { (t : View) → t.name round.target ≡ name_of node.now →
         step_comp t result ≡ M.takes t.program (as_for_target (build t.tree node.now)) round.env.index value (λ inner. pass t round inner (plain_iteration rest)) }
@@ -107,6 +110,7 @@ pub fn begin_take(node: &Node, round: Loop, value: Value, rest: Iteration) -> St
 }
 
 /// What is done in an environment begins.
+#[inline(never)]
 pub fn begin_within(next: Scoped, env: Env) -> Step
     ensures means { (t : View) → step_comp t result ≡ scoped_comp t next env.index }
     ensures less { (w : Weights) → step_weight w result < scoped_weight w next }

@@ -1,9 +1,11 @@
 // The machine as its callers see it.
 
-ghost use Rattle.std.specs.Prelude.{◌≡◌, ◌+◌, ◌<◌, ◌^◌, true, None, IfOk, IsErr, OnErr};
+ghost use Rattle.std.specs.Prelude.{◌≡◌, ◌+◌, ◌<◌, ◌^◌, List, true, None, IfOk, IsErr, OnErr};
+ghost use Rattle.cov_object.specs.declared.file.FileCoverage.{FileCoverage};
 ghost use Rattle.js_meaning.specs.Program.{sources_of, file_at};
 ghost use Rattle.js_machine.specs.private.Opening.{Opens};
-ghost use Rattle.js_machine.specs.Whole.{Begins, Goes, output_of};
+ghost use Rattle.js_coverage.specs.Coverage.{IsCoverage};
+ghost use Rattle.js_machine.specs.Whole.{Begins, Goes, output_of, heap_in};
 
 use crate::data::{Control, Frame};
 use crate::file_actions::start_file;
@@ -12,8 +14,10 @@ use crate::opening::opening;
 use crate::run::run_on;
 use crate::settle::{end_of, rest_control};
 use crate::state::State;
+use cov_object::CoverageMap;
 use items::{Items, Memory};
 use js_code::Code;
+use js_coverage::{DataFault, coverage_of};
 use js_meaning::{Completion, End, Program};
 use std::alloc::{AllocError, Global};
 use std::marker::Model;
@@ -168,6 +172,19 @@ impl Machine {
         ensures { result.now ≡ output_of self.now }
     {
         self.state.output.as_slice()
+    }
+
+    /// The coverage that the program left, or the fault that what it left is none. After want of
+    /// memory in a run it is not looked for.
+    pub fn coverage(&self) -> Result<CoverageMap, DataFault>
+        ensures coverage { IfOk result (λ map. IsCoverage (heap_in self.now) map) }
+        ensures none { result ≡ Err DataFault.NotCoverage → (files : List FileCoverage) → IsCoverage (heap_in self.now) files → ⊥ }
+        ensures lost { self.now.lost ≡ true → result ≡ Err DataFault.Memory }
+    {
+        if self.lost {
+            return Err(DataFault::Memory);
+        }
+        coverage_of(self.alloc, &self.state.heap)
     }
 
     /// What was printed, handed on. It takes no memory.

@@ -21,6 +21,7 @@ use js_value::{Halt, Object, Primitive, Str, Value};
 use std::alloc::{AllocError, Global};
 
 /// What is done in place of a value.
+#[inline(never)]
 pub fn halted(halt: Halt) -> Result<Control, Memory>
     ensures means { IfOk result (λ control. (t : View) → control_comp t control ≡ M.halted halt) }
     ensures less { IfOk result (λ control. (w : Weights) → control_weight w control < 2) }
@@ -34,6 +35,7 @@ pub fn halted(halt: Halt) -> Result<Control, Memory>
 }
 
 /// The value of a member.
+#[inline(never)]
 pub fn get(
     alloc: Global,
     code: &Code,
@@ -80,6 +82,7 @@ fn get_by_value(alloc: Global, heap: &Heap, base: &Value, key: &Value) -> Result
 }
 
 /// The key of a member as a value.
+#[inline(never)]
 pub fn key_value(alloc: Global, code: &Code, words: &Words, key: MemberKey) -> Result<Value, Memory>
     ensures { IfOk result (λ value. value ≡ key_in code.now.nodes key) }
 {
@@ -92,6 +95,7 @@ pub fn key_value(alloc: Global, code: &Code, words: &Words, key: MemberKey) -> R
 }
 
 /// A value for a member.
+#[inline(never)]
 pub fn put(
     alloc: Global,
     heap: &mut Heap,
@@ -112,6 +116,7 @@ pub fn put(
 }
 
 /// A value for a member by its key.
+#[inline(never)]
 pub fn put_by_key(
     alloc: Global,
     code: &Code,
@@ -131,6 +136,7 @@ pub fn put_by_key(
 }
 
 /// A member is deleted.
+#[inline(never)]
 pub fn delete(alloc: Global, heap: &mut Heap, base: &Value, key: &Value) -> Result<Control, Memory>
     ensures after { OnOk result (heap_of heap.new ≡ (members.delete_member base.now key.now (heap_of heap.old)).heap) }
     ensures means { IfOk result (λ control. (t : View) → control_comp t control
@@ -144,6 +150,7 @@ pub fn delete(alloc: Global, heap: &mut Heap, base: &Value, key: &Value) -> Resu
 }
 
 /// A property is put into an object.
+#[inline(never)]
 pub fn define(heap: &mut Heap, object: Object, key: &Str, value: Value) -> Result<Control, Memory>
     ensures after { OnOk result (heap_of heap.new ≡ objects.define object.index (objects.assigned key.now value) (heap_of heap.old)) }
     ensures means { IfOk result (λ control. (t : View) → control_comp t control ≡ M.done) }

@@ -18,6 +18,7 @@ use js_value::{Complaint, Primitive, Value, ascii};
 use std::alloc::Global;
 
 /// The value of a name.
+#[inline(never)]
 pub fn read(heap: &Heap, name: &Name, env: Env) -> Result<Control, Memory>
     ensures means { IfOk result (λ control. (t : View) → control_comp t control
         ≡ M.value_in (heap_of heap.now) (lookup (heap_of heap.now) env.index name.now)) }
@@ -33,6 +34,7 @@ pub fn read(heap: &Heap, name: &Name, env: Env) -> Result<Control, Memory>
 }
 
 /// A value for a name.
+#[inline(never)]
 pub fn write(heap: &mut Heap, name: &Name, env: Env, value: Value) -> Result<Control, Memory>
     ensures after { OnOk result (heap_of heap.new ≡ assign_name env.index name.now value (heap_of heap.old)) }
     ensures means { IfOk result (λ control. (t : View) → control_comp t control
@@ -49,6 +51,7 @@ pub fn write(heap: &mut Heap, name: &Name, env: Env, value: Value) -> Result<Con
 }
 
 /// The first value of a name.
+#[inline(never)]
 pub fn initialize(heap: &mut Heap, name: &Name, env: Env, value: Value) -> Result<Control, Memory>
     ensures after { OnOk result (heap_of heap.new ≡ init_name env.index name.now value (heap_of heap.old)) }
     ensures means { IfOk result (λ control. (t : View) → control_comp t control
@@ -63,6 +66,7 @@ pub fn initialize(heap: &mut Heap, name: &Name, env: Env, value: Value) -> Resul
 }
 
 /// The type of a name's value, or of none.
+#[inline(never)]
 pub fn type_of_name(alloc: Global, heap: &Heap, name: &Name, env: Env) -> Result<Control, Memory>
     ensures means { IfOk result (λ control. (t : View) → control_comp t control
         ≡ type_in_cell (heap_of heap.now) (lookup (heap_of heap.now) env.index name.now)) }

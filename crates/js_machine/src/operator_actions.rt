@@ -20,6 +20,7 @@ use js_value::{OpFault, Primitive, Value, binary, unary};
 use std::alloc::{AllocError, Global};
 
 /// A binary operator of two values.
+#[inline(never)]
 pub fn operate(
     alloc: Global,
     heap: &Heap,
@@ -69,6 +70,7 @@ fn calculate(
 }
 
 /// A unary operator of a value.
+#[inline(never)]
 pub fn operate_unary(
     alloc: Global,
     heap: &Heap,

@@ -21,6 +21,7 @@ use js_value::{Primitive, Str, Value, step, strictly_equal, to_boolean, to_numbe
 use std::alloc::Global;
 
 /// One of two expressions.
+#[inline(never)]
 pub fn choose(holds: usize, fails: usize, env: Env, value: &Value) -> Step
     ensures means { (t : View) → step_comp t result ≡ pending_comp t (Pending.Conditional holds fails env) value.now }
     ensures less { (w : Weights) → step_weight w result < w holds + w fails + 1 }
@@ -33,6 +34,7 @@ pub fn choose(holds: usize, fails: usize, env: Env, value: &Value) -> Step
 }
 
 /// One of two statements, of which the second may be missing.
+#[inline(never)]
 pub fn choose_statement(alloc: Global, holds: usize, fails: usize, env: Env, value: &Value) -> Step
     ensures means { (t : View) → step_comp t result ≡ pending_comp t (Pending.Choose holds fails env) value.now }
     ensures less { (w : Weights) → step_weight w result < w holds + w fails + 2 }
@@ -49,6 +51,7 @@ pub fn choose_statement(alloc: Global, holds: usize, fails: usize, env: Env, val
 }
 
 /// The right operand of a logical operator, or the left one.
+#[inline(never)]
 pub fn logical(operator: LogicalOperator, right: usize, env: Env, value: Value) -> Step
     ensures means { (t : View) → step_comp t result ≡ pending_comp t (Pending.Logical operator right env) value }
     ensures less { (w : Weights) → step_weight w result < w right + 1 }
@@ -95,6 +98,7 @@ fn is_nullish_primitive(primitive: &Primitive) -> bool
 }
 
 /// A turn of a loop, or its end.
+#[inline(never)]
 pub fn turn(statement: usize, labels: Labels, env: Env, value: &Value) -> Step
     ensures means { (t : View) → step_comp t result ≡ pending_comp t (Pending.Turn statement labels env) value.now }
     ensures less { (w : Weights) → step_weight w result ≡ 0 }
@@ -111,6 +115,7 @@ pub fn turn(statement: usize, labels: Labels, env: Env, value: &Value) -> Step
 }
 
 /// A number one more or one less, for a reference: the new number is given or the old one.
+#[inline(never)]
 pub fn update(
     prefix: bool,
     operator: UpdateOperator,
@@ -163,6 +168,7 @@ fn chosen(prefix: bool, new: i64, old: i64) -> Value
 }
 
 /// A value as a text, before the text after it in a template.
+#[inline(never)]
 pub fn template_text(
     alloc: Global,
     part: usize,
@@ -186,6 +192,7 @@ pub fn template_text(
 }
 
 /// Two texts as one.
+#[inline(never)]
 pub fn joined(alloc: Global, left: &Str, right: &Str) -> Result<Str, Memory>
     ensures { IfOk result (λ text. text ≡ left.now ++ right.now) }
 {
@@ -195,6 +202,7 @@ pub fn joined(alloc: Global, left: &Str, right: &Str) -> Result<Str, Memory>
 }
 
 /// A value as the key of a property.
+#[inline(never)]
 pub fn key_text(alloc: Global, next: Keying, env: Env, value: &Value) -> Result<Step, Memory>
     ensures means { IfOk result (λ step. (t : View) → step_comp t step ≡ pending_comp t (Pending.Key next env) value.now) }
     ensures less { IfOk result (λ step. (w : Weights) → step_weight w step < pending_weight w (Pending.Key next env)) }
@@ -213,6 +221,7 @@ pub fn key_text(alloc: Global, next: Keying, env: Env, value: &Value) -> Result<
 }
 
 /// What a loop goes through is found.
+#[inline(never)]
 pub fn subject(keys: bool, round: Loop, value: Value) -> Step
     ensures means { (t : View) → step_comp t result ≡ pending_comp t (Pending.Subject keys round) value }
     ensures less { (w : Weights) → step_weight w result < w round.target + 3 }
@@ -225,6 +234,7 @@ pub fn subject(keys: bool, round: Loop, value: Value) -> Step
 }
 
 /// A turn of a loop whose target has taken its value.
+#[inline(never)]
 pub fn take_pass(round: Loop, inner: Env, rest: Iteration) -> Step
     ensures means { (t : View) (value : Value) → step_comp t result ≡ pending_comp t (Pending.Taken round inner rest) value }
     ensures less { (w : Weights) → step_weight w result ≡ 0 }
@@ -245,6 +255,7 @@ pub fn take_pass(round: Loop, inner: Env, rest: Iteration) -> Step
 }
 
 /// The clause whose test is there, or the clauses after it.
+#[inline(never)]
 pub fn tested(
     statements: usize,
     rest: usize,
@@ -276,6 +287,7 @@ pub fn tested(
 }
 
 /// The parameters after one that took its argument.
+#[inline(never)]
 pub fn next_param(rest: usize, arguments: Items<Value>, next: usize, env: Env) -> Step
     ensures means { (t : View) (value : Value) → step_comp t result ≡ pending_comp t (Pending.NextParam rest arguments next env) value }
     ensures less { (w : Weights) → step_weight w result < w rest + 1 }

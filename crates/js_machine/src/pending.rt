@@ -19,6 +19,7 @@ use js_value::Value;
 use std::alloc::Global;
 
 /// What waits for a value goes on with it.
+#[inline(never)]
 pub fn go_on(alloc: Global, pending: Pending, value: Value) -> Result<Step, Memory>
     ensures means { IfOk result (λ step. (t : View) → step_comp t step ≡ pending_comp t pending value) }
     ensures less { IfOk result (λ step. (w : Weights) → step_weight w step < pending_weight w pending) }

@@ -21,6 +21,7 @@ use js_tree::{BinaryOperator, Identifier, UnaryOperator};
 use js_value::{Complaint, Primitive, Value};
 
 /// The expression at a place begins, for the reference that it is.
+#[inline(never)]
 pub fn begin_reference(node: &Node, place: usize, env: Env, next: Referring) -> Step
     ensures means { (t : View) → t.name place ≡ name_of node.now → t.tree place ≡ build t.tree node.now →
         step_comp t result ≡ M.comp_reference t.program (as_expr (build t.tree node.now)) env.index (otherwise t next (as_expr (build t.tree node.now)) env.index) (referred t next env.index) }
@@ -97,6 +98,7 @@ fn not_assignable() -> Step
 }
 
 /// A reference is there.
+#[inline(never)]
 pub fn begin_referred(next: Referring, env: Env, reference: Reference) -> Result<Step, Memory>
     ensures means { IfOk result (λ step. (t : View) → step_comp t step ≡ referred t next env.index (reference_of t reference)) }
     ensures less { IfOk result (λ step. (w : Weights) → step_weight w step < referring_weight w next) }
@@ -211,6 +213,7 @@ fn assign_plainly(value: usize, env: Env, reference: Reference) -> Step
 }
 
 /// The value of a reference.
+#[inline(never)]
 pub fn get(reference: Reference, env: Env) -> Control
     ensures means { (t : View) → control_comp t result ≡ M.get_value env.index (reference_of t reference) }
     ensures less { (w : Weights) → control_weight w result ≡ 2 }
@@ -222,6 +225,7 @@ pub fn get(reference: Reference, env: Env) -> Control
 }
 
 /// A value for a reference.
+#[inline(never)]
 pub fn put(reference: Reference, env: Env, value: Value) -> Control
     ensures means { (t : View) → control_comp t result ≡ M.put_value env.index (reference_of t reference) value }
     ensures less { (w : Weights) → control_weight w result ≡ 2 }
@@ -233,6 +237,7 @@ pub fn put(reference: Reference, env: Env, value: Value) -> Control
 }
 
 /// The expression at a place begins, where a name is given to it.
+#[inline(never)]
 pub fn begin_named(node: &Node, title: Title, place: usize, env: Env) -> Step
     ensures means { (t : View) → t.tree place ≡ build t.tree node.now →
         step_comp t result ≡ M.named (units_of t title) (as_expr (build t.tree node.now)) env.index (M.comp_expr t.program (as_expr (build t.tree node.now)) env.index) }
@@ -288,6 +293,7 @@ fn begin_function_named(
 }
 
 /// The expression at a place begins, for its type: it may be a name that is not there.
+#[inline(never)]
 pub fn begin_type_of(node: &Node, place: usize, env: Env) -> Step
     ensures means { (t : View) → t.name place ≡ name_of node.now → t.tree place ≡ build t.tree node.now →
         step_comp t result ≡ M.if_there (M.name_of (as_expr (build t.tree node.now))) env.index

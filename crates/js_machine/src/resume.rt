@@ -17,6 +17,7 @@ use js_value::{Object, Value};
 use std::alloc::Global;
 
 /// What waits goes on with a completion.
+#[inline(never)]
 pub fn resume(alloc: Global, frame: Frame, completion: Completion) -> Result<Step, Memory>
     ensures means { IfOk result (λ step. (t : View) → step_comp t step ≡ frame_comp t frame completion) }
     ensures less { IfOk result (λ step. (w : Weights) → step_weight w step < frame_weight w frame) }

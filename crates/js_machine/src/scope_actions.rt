@@ -34,6 +34,7 @@ fn undefined() -> Control
 }
 
 /// A block is entered.
+#[inline(never)]
 pub fn enter_block(
     alloc: Global,
     code: &Code,
@@ -58,6 +59,7 @@ pub fn enter_block(
 }
 
 /// The clauses of a `switch` are entered.
+#[inline(never)]
 pub fn enter_switch(
     alloc: Global,
     code: &Code,
@@ -89,6 +91,7 @@ pub fn enter_switch(
 }
 
 /// The scope of a loop is entered.
+#[inline(never)]
 pub fn enter_loop(
     alloc: Global,
     code: &Code,
@@ -181,6 +184,7 @@ fn one_name(alloc: Global, name: &Name, constant: bool) -> Result<Items<Binding>
 }
 
 /// The names of a `let` are made anew.
+#[inline(never)]
 pub fn make_anew(
     code: &Code,
     heap: &mut Heap,
@@ -210,6 +214,7 @@ fn is_fresh(code: &Code, init: usize) -> bool
 }
 
 /// The name of a `catch` gets the exception.
+#[inline(never)]
 pub fn catch_name(
     alloc: Global,
     heap: &mut Heap,
@@ -230,6 +235,7 @@ pub fn catch_name(
 }
 
 /// A function that sees its own name gets an environment for it.
+#[inline(never)]
 pub fn own_name(
     alloc: Global,
     heap: &mut Heap,

@@ -23,6 +23,7 @@ use js_value::{Primitive, Value};
 use std::alloc::Global;
 
 /// The statement at a place begins.
+#[inline(never)]
 pub fn begin_statement(
     alloc: Global,
     node: &Node,
@@ -181,6 +182,7 @@ fn begin_round(keys: bool, subject: usize, round: Loop) -> Step
 }
 
 /// A block before a `catch` clause begins.
+#[inline(never)]
 pub fn begin_try(block: usize, catch: usize, env: Env) -> Step
     ensures { result ≡ Step.Push (Frame.Catch catch env) (Control.Do (Action.EnterBlock block env)) }
 {
@@ -201,6 +203,7 @@ fn copied(alloc: Global, label: &Option<Identifier>) -> Result<Option<Name>, Mem
 }
 
 /// Statements begin, before what stands after the first of them: the only one of a list begins by itself.
+#[inline(never)]
 pub fn begin_statements(alloc: Global, first: usize, rest: usize, after: &Node, env: Env) -> Step
     ensures means { (t : View) → t.tree rest ≡ build t.tree after.now →
         step_comp t result ≡ M.comp_stmts t.program (P.more_stmt (stmt_at t first) (stmts_at t rest)) env.index }
@@ -218,6 +221,7 @@ pub fn begin_statements(alloc: Global, first: usize, rest: usize, after: &Node, 
 }
 
 /// The declarators that are left begin.
+#[inline(never)]
 pub fn begin_declarators(node: &Node, kind: VariableKind, env: Env) -> Step
     ensures means { (t : View) → step_comp t result ≡ M.comp_declarators t.program kind (as_declarators (build t.tree node.now)) env.index }
     ensures less { (w : Weights) → step_weight w result < node_weight w node.now }
@@ -236,6 +240,7 @@ pub fn begin_declarators(node: &Node, kind: VariableKind, env: Env) -> Step
 }
 
 /// A declarator begins: without an initializer a variable keeps its value.
+#[inline(never)]
 pub fn begin_declarator(
     kind: VariableKind,
     name: usize,
@@ -282,6 +287,7 @@ fn initialize_undefined(name: usize, env: Env) -> Step
 }
 
 /// The value of a name that is declared.
+#[inline(never)]
 pub fn bind_to(kind: VariableKind, name: usize, env: Env, value: Value) -> Control
     ensures means { (t : View) → control_comp t result ≡ M.binds kind (t.name name) env.index value }
     ensures less { (w : Weights) → control_weight w result ≡ 2 }
@@ -294,6 +300,7 @@ pub fn bind_to(kind: VariableKind, name: usize, env: Env, value: Value) -> Contr
 }
 
 /// The first part of a `for` begins.
+#[inline(never)]
 pub fn begin_init(node: &Node, env: Env) -> Step
     ensures means { (t : View) → step_comp t result ≡ M.comp_for_init t.program (as_for_init (build t.tree node.now)) env.index }
     ensures less { (w : Weights) → step_weight w result < node_weight w node.now }
@@ -317,6 +324,7 @@ pub fn begin_init(node: &Node, env: Env) -> Step
 }
 
 /// A `catch` clause begins.
+#[inline(never)]
 pub fn begin_catch(node: &Node, place: usize, value: Value, env: Env) -> Step
     ensures means { (t : View) → t.name place ≡ name_of node.now →
         step_comp t result ≡ M.comp_catch t.program (as_catch (build t.tree node.now)) env.index value }

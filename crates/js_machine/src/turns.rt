@@ -16,6 +16,7 @@ use js_host::Iteration;
 use std::alloc::Global;
 
 /// A turn of the loop at a place begins with its body.
+#[inline(never)]
 pub fn begin_turn(alloc: Global, node: &Node, statement: usize, labels: Labels, env: Env) -> Step
     ensures { (t : View) → t.tree statement ≡ build t.tree node.now →
         step_comp t result ≡ M.comp_turn t.program (as_stmt (build t.tree node.now)) (labels_of t labels) env.index }
@@ -47,6 +48,7 @@ fn round_body(alloc: Global, body: usize, statement: usize, labels: Labels, env:
 }
 
 /// A turn of a loop with `in` or `of` begins with its body, in the environment where its target took the last value.
+#[inline(never)]
 pub fn begin_pass(
     alloc: Global,
     node: &Node,
