@@ -1,0 +1,15 @@
+use items::{Items, Text};
+
+/// A source file.
+#[derive(Debug, Drop)]
+pub struct Source {
+    /// Its path.
+    pub path: Text,
+    /// Its bytes.
+    pub bytes: Items<u8>,
+    /// Whether its coverage is counted.
+    pub counted: bool,
+}
+
+/// The source files of a program, the one that runs first at the front.
+pub type Sources = Vec<Source>;
