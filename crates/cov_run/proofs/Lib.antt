@@ -1,1 +1,3 @@
+mod Known
+mod Loading
 mod OneFile

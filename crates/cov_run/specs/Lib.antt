@@ -1,1 +1,4 @@
+pub mod Asked
 pub mod Exec
+pub mod Loaded
+pub mod private

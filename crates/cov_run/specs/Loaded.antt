@@ -1,0 +1,74 @@
+-- The sources that a program is loaded from: the entry, and then, breadth first and in the order of each file's text, every file that
+-- is asked for and that the store holds.
+use Rattle.std.specs.Prelude.{◌≡◌, ℕ, ◌<◌, ◌≤◌, Bool, not, List, [], ◌∷◌, ◌++◌, length, Option, None, Some, Result, Ok, Err, IfSome}
+use Rattle.std.specs.List.{list_any}
+use Rattle.js_tree.specs.Plain.{File}
+use Rattle.js_text.specs.Limits.{source_limits}
+use Rattle.js_scopes.specs.Accepted.{Accepted}
+use Rattle.path_globs.specs.Wildcards.{matches}
+use Rattle.cov_base.specs.Store.{Held}
+use Rattle.cov_sources.specs.Refused.{HasOnly, IsRefused}
+use Rattle.cov_sources.specs.declared.source.Source.{Source}
+use Rattle.cov_sources.specs.declared.why.Why.{Why}
+use Rattle.cov_run.specs.Asked.{Asked, only_entry, with_file}
+use Rattle.cov_run.specs.declared.fault.LoadFault.{LoadFault}
+use Rattle.cov_run.specs.declared.fault.LoadFault.TheVariants as fault
+
+-- where the store tells what it holds, this is what it holds at the path
+abbrev pub Holds : Option Held → List ℕ → Option (List ℕ) → Type 0
+Holds told path found = IfSome told (λ at. at path ≡ found)
+
+-- a file is counted where no pattern stands for its path
+abbrev pub is_counted : List (List ℕ) → List ℕ → Bool
+is_counted exclude path = not (list_any (λ pattern. matches pattern path) exclude)
+
+abbrev pub source_of : List (List ℕ) → List ℕ → List ℕ → Source
+source_of exclude path bytes = record { path = path; bytes = bytes; counted = is_counted exclude path }
+
+-- the file at the path is a source of this tree, and of no other
+pub record IsSource (told : Option Held) (path bytes : List ℕ) (tree : File) : Type 0 where
+  pub held : Holds told path (Some bytes)
+  pub accepted : Accepted bytes tree
+  pub only : HasOnly bytes tree
+
+-- the file at the path is longer than a source may be
+pub record IsTooLong (told : Option Held) (path bytes : List ℕ) : Type 0 where
+  pub held : Holds told path (Some bytes)
+  pub longer : source_limits.bytes < length bytes
+
+-- the file at the path is within the limit, and no source for this reason
+pub record IsNoSource (told : Option Held) (path bytes : List ℕ) (why : Why) : Type 0 where
+  pub held : Holds told path (Some bytes)
+  pub within : length bytes ≤ source_limits.bytes
+  pub refused : IsRefused why bytes
+  pub no_source : (tree : File) → Accepted bytes tree → ⊥
+
+-- how many sources a program may have
+abbrev pub most : ℕ
+most = 1024
+
+-- what it comes to where these sources are loaded already and these paths were asked for: the sources, or why there are none. The
+-- path that waits at the front is read next. A failed read and want of memory may come whatever is held.
+pub data Loads (told : Option Held) (exclude : List (List ℕ)) : List Source → Asked → Result (List Source) LoadFault → Type 0 where
+  all : {sources : List Source} {known : List (List ℕ)} → Loads told exclude sources (record { known = known; waiting = [] }) (Ok sources)
+  one_more : {sources : List Source} {known waiting : List (List ℕ)} {path bytes : List ℕ} {tree : File} {outcome : Result (List Source) LoadFault} →
+      IsSource told path bytes tree → length sources < most →
+      Loads told exclude (sources ++ source_of exclude path bytes ∷ []) (with_file path tree (record { known = known; waiting = waiting })) outcome →
+      Loads told exclude sources (record { known = known; waiting = path ∷ waiting }) outcome
+  passed_over : {first : Source} {sources : List Source} {known waiting : List (List ℕ)} {path : List ℕ} {outcome : Result (List Source) LoadFault} →
+      Holds told path None → Loads told exclude (first ∷ sources) (record { known = known; waiting = waiting }) outcome →
+      Loads told exclude (first ∷ sources) (record { known = known; waiting = path ∷ waiting }) outcome
+  no_file : {known waiting : List (List ℕ)} {path : List ℕ} → Holds told path None → Loads told exclude [] (record { known = known; waiting = path ∷ waiting }) (Err fault.NoFile)
+  too_long : {sources : List Source} {known waiting : List (List ℕ)} {path bytes : List ℕ} →
+      IsTooLong told path bytes → Loads told exclude sources (record { known = known; waiting = path ∷ waiting }) (Err (fault.TooLong path))
+  refused : {sources : List Source} {known waiting : List (List ℕ)} {path bytes : List ℕ} {why : Why} →
+      IsNoSource told path bytes why → Loads told exclude sources (record { known = known; waiting = path ∷ waiting }) (Err (fault.Refused path why))
+  too_many : {sources : List Source} {known waiting : List (List ℕ)} {path bytes : List ℕ} {tree : File} →
+      IsSource told path bytes tree → most ≤ length sources → Loads told exclude sources (record { known = known; waiting = path ∷ waiting }) (Err fault.TooManyFiles)
+  failed : {sources : List Source} {known waiting : List (List ℕ)} {path : List ℕ} →
+      Loads told exclude sources (record { known = known; waiting = path ∷ waiting }) (Err (fault.ReadFault path))
+  wanting : {sources : List Source} {asked : Asked} → Loads told exclude sources asked (Err fault.Memory)
+
+-- what the program of an entry comes to, where the files for whose paths one of these patterns stands aren't counted
+abbrev pub Loaded : Option Held → List ℕ → List (List ℕ) → Result (List Source) LoadFault → Type 0
+Loaded told entry exclude outcome = Loads told exclude [] (only_entry entry) outcome
