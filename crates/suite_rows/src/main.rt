@@ -6,6 +6,7 @@
 mod call;
 mod names;
 mod parts;
+mod pattern;
 mod place;
 mod printed;
 mod script;

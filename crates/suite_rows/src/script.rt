@@ -23,12 +23,14 @@
 //     pieces TIMES N TEXT   prints the tree of the text, TIMES over, to a sink whose write N fails: how many bytes it has
 //                      taken then, and how that ends (`=`)
 //     marks TEXT       the marks of these lines, and what begins there in the text
+//     matches PATTERN PATH   whether the pattern stands for the path
 //
 // Texts, paths and words are in percent encoding, and so is what is printed and said. A line that is none of these
 // ends the program.
 use crate::call::Setting;
 use crate::names::names_of;
 use crate::parts::run_parts;
+use crate::pattern::matches_of;
 use crate::printed::{marks_of, print_lines, print_pieces};
 use crate::shape::{height_of, prelude_of, same_of};
 use crate::spelled::bytes_of;
@@ -113,6 +115,7 @@ fn answer(alloc: Global, word: &str, text: &str) -> Result<Option<String>, Memor
         "marks" => Ok(Some(marks_of(alloc, bytes_of(alloc, text)?)?)),
         "height" => Ok(Some(height_of(alloc, bytes_of(alloc, text)?)?)),
         "same" => same_of(alloc, text),
+        "matches" => matches_of(alloc, text),
         "prelude" => Ok(Some(prelude_of(alloc, bytes_of(alloc, text)?)?)),
         _ => Ok(None),
     }
