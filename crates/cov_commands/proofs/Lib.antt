@@ -7,6 +7,6 @@ pub mod Helped
 pub mod Judged
 pub mod LineLemmas
 pub mod Placed
-pub mod Reached
+pub mod Refusals
 pub mod Stands
 pub mod V8Judged

@@ -7,7 +7,7 @@ ghost use Rattle.cov_commands.specs.private.Cause.{IsAnswerTo, IsBytesFault};
 use crate::exec::exec;
 use crate::fault::Fault;
 use crate::maps::maps;
-use crate::source::{accepted_of, text_of};
+use crate::source::accepted_of;
 use cov_words::SourceTask;
 use items::{Items, Memory};
 use js_meaning::End;
@@ -51,7 +51,8 @@ pub(crate) fn answer_to(
     ensures answer { IfOk result (λ answer. IsAnswerTo task path.now bytes.items answer) }
     ensures fault { IfErr result (λ why. IsBytesFault why bytes.items) }
 {
-    let text = text_of(alloc, bytes)?;
-    let file = accepted_of(alloc, &text)?;
-    Ok(answer_for(alloc, task, path, &text, file)?)
+    match accepted_of(alloc, bytes) {
+        Ok((text, file)) => Ok(answer_for(alloc, task, path, &text, file)?),
+        Err(fault) => Err(fault),
+    }
 }

@@ -1,22 +1,18 @@
-ghost use Rattle.std.specs.Prelude.{◌≡◌, ◌≤◌, length, IfOk, IfErr, OnOk, Some, None, false};
-ghost use Rattle.std.specs.Str.{IsUtf8};
+ghost use Rattle.std.specs.Prelude.{◌≡◌, ℕ, List, IfOk, IfErr, Some};
 ghost use Rattle.js_tree.specs.Tree.{plain_file};
-ghost use Rattle.js_tree.specs.Height.{height_file};
-ghost use Rattle.js_text.specs.Limits.{source_limits};
-ghost use Rattle.js_reading.specs.Reads.{Reads};
-ghost use Rattle.js_parser.specs.Refused.{RefusesText};
 ghost use Rattle.js_scopes.specs.Accepted.{Accepted};
-ghost use Rattle.js_scopes.specs.Checks.{first_fault};
 ghost use Rattle.cov_base.specs.Causes.{Rose};
+ghost use Rattle.cov_sources.specs.Refused.{HasOnly, IsRefused};
 ghost use Rattle.cov_commands.specs.Source.{Holds};
-ghost use Rattle.cov_commands.specs.private.Cause.{HasOnly, IsReadingFault, IsBytesFault, IsCheckFault};
+ghost use Rattle.cov_commands.specs.private.Cause.{IsReadingFault, IsBytesFault, unread_fault};
 
 use crate::fault::Fault;
 use cov_base::{Failed, Store};
-use js_parser::{Refusal, Refused, parse};
-use js_scopes::{Checked, ScopeFaultKind, check};
-use js_text::{Limits, Text, TextFault};
-use js_tree::File;
+use cov_sources::{Why, accept};
+use js_parser::Refusal;
+use js_scopes::Checked;
+use js_text::{Text, TextFault};
+use js_tree::Pos;
 use std::alloc::Global;
 
 /// The bytes of the file at a path.
@@ -36,30 +32,11 @@ pub(crate) fn source<S: Store>(store: &mut S, path: &str) -> Result<Vec<u8>, Fau
     }
 }
 
-/// The text that the bytes of a source spell.
-pub(crate) fn text_of(alloc: Global, bytes: Vec<u8>) -> Result<Text, Fault>
-    ensures text { IfOk result (λ text. text ≡ bytes.items) }
-    ensures within { OnOk result (length bytes.items ≤ source_limits.bytes) }
-    ensures utf8 { OnOk result (IsUtf8 bytes.items) }
-    ensures fault { IfErr result (λ why. IsBytesFault why bytes.items) }
+/// What a refusal of a text at a place is.
+fn unread(why: Refusal, at: Pos) -> Fault
+    ensures { result ≡ unread_fault why at }
 {
-    match Text::from_bytes(alloc, bytes, Limits::source()) {
-        Ok(text) => Ok(text),
-        Err(TextFault::TooLong { len: _ }) => Err(Fault::TooLong),
-        Err(TextFault::NotUtf8 { at }) => Err(Fault::NotUtf8 { at: at as usize }),
-        Err(TextFault::Memory) => Err(Fault::OutOfMemory),
-    }
-}
-
-/// What the reader's refusal of a text is: its place is told by line and column.
-fn fault_of(text: &Text, refused: Refused) -> Fault
-    requires within { length text.now ≤ source_limits.bytes }
-    requires utf8 { IsUtf8 text.now }
-    requires refused { RefusesText refused text.now source_limits.height }
-    ensures { IsBytesFault result text.now }
-{
-    let at = text.position(refused.at);
-    match refused.why {
+    match why {
         Refusal::Syntax => Fault::Syntax { at },
         Refusal::Unsupported(form) => Fault::Unsupported { at, form },
         Refusal::TooDeep => Fault::TooDeep { at },
@@ -67,44 +44,29 @@ fn fault_of(text: &Text, refused: Refused) -> Fault
     }
 }
 
-/// The file that a source text is read to.
-fn file_of(alloc: Global, text: &Text) -> Result<File, Fault>
-    requires within { length text.now ≤ source_limits.bytes }
-    requires utf8 { IsUtf8 text.now }
-    ensures tree { IfOk result (λ file. Reads text.now (plain_file file)) }
-    ensures only { IfOk result (λ file. HasOnly text.now (plain_file file)) }
-    ensures low { IfOk result (λ file. height_file (plain_file file) ≤ source_limits.height) }
-    ensures fault { IfErr result (λ why. IsBytesFault why text.now) }
+/// What a cause is for which bytes are no source.
+#[tactic(auto, using(crate::proofs::Refusals::refused_text))]
+fn fault_of(why: Why) -> Fault
+    ensures { (bytes : List ℕ) → IsRefused why bytes → IsBytesFault result bytes }
 {
-    match parse(alloc, text, Limits::source()) {
-        Ok(file) => Ok(file),
-        Err(refused) => Err(fault_of(text, refused)),
+    match why {
+        Why::NoText(TextFault::TooLong { len: _ }) => Fault::TooLong,
+        Why::NoText(TextFault::NotUtf8 { at }) => Fault::NotUtf8 { at: at as usize },
+        Why::NoText(TextFault::Memory) => Fault::OutOfMemory,
+        Why::Unread { refused, place } => unread(refused.why, place),
+        Why::Broken(fault) => Fault::Broken { fault },
     }
 }
 
-/// The file, where it breaks no early rule.
-fn checked_of(alloc: Global, file: File) -> Result<Checked, Fault>
-    ensures file { IfOk result (λ checked. checked ≡ file) }
-    ensures unbroken { OnOk result (first_fault false (plain_file file) ≡ None) }
-    ensures fault { IfErr result (λ why. IsCheckFault why (plain_file file)) }
+/// The source that bytes are: their text, read, and breaking no early rule.
+pub(crate) fn accepted_of(alloc: Global, bytes: Vec<u8>) -> Result<(Text, Checked), Fault>
+    ensures text { IfOk result (λ source. source.0 ≡ bytes.items) }
+    ensures accepted { IfOk result (λ source. Accepted bytes.items (plain_file source.1)) }
+    ensures only { IfOk result (λ source. HasOnly bytes.items (plain_file source.1)) }
+    ensures fault { IfErr result (λ why. IsBytesFault why bytes.items) }
 {
-    match check(alloc, file) {
-        Ok(checked) => Ok(checked),
-        Err((_, fault)) => match fault.kind {
-            ScopeFaultKind::Memory => Err(Fault::OutOfMemory),
-            _ => Err(Fault::Broken { fault }),
-        },
+    match accept(alloc, bytes)? {
+        Ok(source) => Ok(source),
+        Err(why) => Err(fault_of(why)),
     }
-}
-
-/// The source that a text is: read, and breaking no early rule.
-pub(crate) fn accepted_of(alloc: Global, text: &Text) -> Result<Checked, Fault>
-    requires within { length text.now ≤ source_limits.bytes }
-    requires utf8 { IsUtf8 text.now }
-    ensures accepted { IfOk result (λ file. Accepted text.now (plain_file file)) }
-    ensures only { IfOk result (λ file. HasOnly text.now (plain_file file)) }
-    ensures fault { IfErr result (λ why. IsBytesFault why text.now) }
-{
-    let file = file_of(alloc, text)?;
-    checked_of(alloc, file)
 }

@@ -2,14 +2,18 @@
 use Rattle.std.specs.Prelude.{◌≡◌, ℕ, false, ◌<◌, ◌≤◌, List, length, Option, None, Some}
 use Rattle.std.specs.Str.{IsUtf8}
 use Rattle.std.specs.Str.Lossy.{utf8_valid_len}
+use Rattle.js_tree.specs.declared.place.Pos.{Pos}
 use Rattle.js_tree.specs.Plain.{File}
 use Rattle.js_tree.specs.Height.{height_file}
 use Rattle.js_text.specs.Limits.{source_limits}
 use Rattle.js_text.specs.Position.{position}
 use Rattle.js_reading.specs.Reads.{Reads, NoTree, Supported, LeftOut, TooHigh}
+use Rattle.js_parser.specs.declared.refused.Refusal.{Refusal}
+use Rattle.js_parser.specs.declared.refused.Refusal.TheVariants as why
 use Rattle.js_scopes.specs.Accepted.{Accepted}
 use Rattle.js_scopes.specs.Checks.{first_fault}
 use Rattle.cov_base.specs.Store.{Held}
+pub use Rattle.cov_sources.specs.Refused.{HasOnly}
 use Rattle.cov_base.specs.Sink.{after_more, TakesPrefix}
 use Rattle.js_meaning.specs.declared.outcome.End.{End}
 use Rattle.cov_words.specs.declared.command.SourceTask.{SourceTask}
@@ -19,15 +23,12 @@ use Rattle.cov_commands.specs.declared.answer.Answer.{Answer}
 use Rattle.cov_commands.specs.declared.fault.Fault.{Fault}
 use Rattle.cov_commands.specs.declared.fault.Fault.TheVariants as fault
 
--- the text has no tree but this one
-abbrev pub HasOnly : List ℕ → File → Type 0
-HasOnly text tree = (other : File) → Reads text other → other ≡ tree
-
--- a tree that breaks an early rule
-abbrev pub IsCheckFault : Fault → File → Type 0
-IsCheckFault (fault.Broken broken) tree = first_fault false tree ≡ Some broken
-IsCheckFault fault.OutOfMemory tree = Unit {0}
-IsCheckFault other tree = ⊥
+-- a refusal of a text at a place
+abbrev pub unread_fault : Refusal → Pos → Fault
+unread_fault why.Syntax at = fault.Syntax at
+unread_fault (why.Unsupported form) at = fault.Unsupported at form
+unread_fault why.TooDeep at = fault.TooDeep at
+unread_fault why.Memory at = fault.OutOfMemory
 
 -- bytes that are no source
 abbrev pub IsBytesFault : Fault → List ℕ → Type 0
