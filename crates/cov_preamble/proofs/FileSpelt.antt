@@ -10,7 +10,6 @@ use Rattle.js_tree.specs.Plain.{StringKey}
 use Rattle.js_reading.specs.Makes.{is_proto}
 use Rattle.cov_object.specs.Branch.{BranchCoverage}
 use Rattle.cov_object.specs.Json.{by_key, object_of, numbered, count_data, column_data, position_data, location_data, function_data, branch_data, path_counts_data, statements_data, statement_counts_data, functions_data, function_counts_data, branches_data, branch_counts_data, with_hash, with_source_map, file_data}
-use Rattle.cov_object.specs.Numbered.{AreSmall}
 use Rattle.cov_object.specs.declared.file.FileCoverage.{FileCoverage}
 use Rattle.cov_object.specs.declared.file.FunctionCoverage.{FunctionCoverage}
 use Rattle.cov_object.specs.declared.file.PathCoverage.{PathCoverage}
@@ -202,12 +201,12 @@ module _ {T : Type 0} (f : T → Data) (most : ℕ) where
   AllValues [] = Unit {0}
   AllValues (thing ∷ things) = Value most (f thing.1) × AllValues things
 
-  entries_fit : (things : List (ℕ × T)) → AreSmall things → AllValues things → AllFit most (map (λ (thing : ℕ × T). (decimal thing.0, f thing.1)) things)
-  entries_fit [] small all = tt
-  entries_fit (thing ∷ things) small all = ((decimal_key thing.0 (omega (arith, small.0)), all.0), entries_fit things small.1 all.1)
+  entries_fit : (things : List (ℕ × T)) → AllValues things → AllFit most (map (λ (thing : ℕ × T). (decimal thing.0, f thing.1)) things)
+  entries_fit [] all = tt
+  entries_fit (thing ∷ things) all = ((decimal_key thing.0, all.0), entries_fit things all.1)
 
-  numbered_value : (things : List (ℕ × T)) → AreSmall things → AllValues things → Value (most + 1) (numbered f things)
-  numbered_value things small all = of_entries most _ (entries_fit things small all)
+  numbered_value : (things : List (ℕ × T)) → AllValues things → Value (most + 1) (numbered f things)
+  numbered_value things all = of_entries most _ (entries_fit things all)
 
   always : ((thing : T) → Value most (f thing)) → (things : List (ℕ × T)) → AllValues things
   always each [] = tt
@@ -238,17 +237,17 @@ members_fit : (file : FileCoverage) → HasTexts file → AllFit 5 (members_of_f
 members_fit file has = (
   (path_key, text_value 5 file.path has.path),
   (
-    (statement_map_key, deeper 3 5 (omega arith) (numbered_value (λ (s : StatementCoverage). location_data s.location) 2 file.statements has.statements (always (λ (s : StatementCoverage). location_data s.location) 2 (λ s. location_value s.location) file.statements))),
+    (statement_map_key, deeper 3 5 (omega arith) (numbered_value (λ (s : StatementCoverage). location_data s.location) 2 file.statements (always (λ (s : StatementCoverage). location_data s.location) 2 (λ s. location_value s.location) file.statements))),
     (
-      (s_key, deeper 1 5 (omega arith) (numbered_value (λ (s : StatementCoverage). count_data s.count) 0 file.statements has.statements (always (λ (s : StatementCoverage). count_data s.count) 0 (λ s. count_value s.count) file.statements))),
+      (s_key, deeper 1 5 (omega arith) (numbered_value (λ (s : StatementCoverage). count_data s.count) 0 file.statements (always (λ (s : StatementCoverage). count_data s.count) 0 (λ s. count_value s.count) file.statements))),
       (
-        (function_map_key, deeper 4 5 (omega arith) (numbered_value function_data 3 file.functions has.functions (functions_are file.functions has.names))),
+        (function_map_key, deeper 4 5 (omega arith) (numbered_value function_data 3 file.functions (functions_are file.functions has.names))),
         (
-          (f_key, deeper 1 5 (omega arith) (numbered_value (λ (f : FunctionCoverage). count_data f.count) 0 file.functions has.functions (always (λ (f : FunctionCoverage). count_data f.count) 0 (λ f. count_value f.count) file.functions))),
+          (f_key, deeper 1 5 (omega arith) (numbered_value (λ (f : FunctionCoverage). count_data f.count) 0 file.functions (always (λ (f : FunctionCoverage). count_data f.count) 0 (λ f. count_value f.count) file.functions))),
           (
-            (branch_map_key, numbered_value branch_data 4 file.branches has.branches (branches_are file.branches has.kinds)),
+            (branch_map_key, numbered_value branch_data 4 file.branches (branches_are file.branches has.kinds)),
             (
-              (b_key, deeper 2 5 (omega arith) (numbered_value path_counts_data 1 file.branches has.branches (always path_counts_data 1 path_counts_value file.branches))),
+              (b_key, deeper 2 5 (omega arith) (numbered_value path_counts_data 1 file.branches (always path_counts_data 1 path_counts_value file.branches))),
               tt,
             ),
           ),

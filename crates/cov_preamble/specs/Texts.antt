@@ -1,8 +1,7 @@
--- Which coverage the preamble holds: its texts are UTF-8, its ids are small, and it has no source map.
+-- Which coverage the preamble holds: its texts are UTF-8, and it has no source map.
 use Rattle.std.specs.Prelude.{◌≡◌, ℕ, List, [], ◌∷◌, None, IfSome}
 use Rattle.std.specs.Str.{IsUtf8}
 use Rattle.cov_object.specs.Branch.{BranchCoverage}
-use Rattle.cov_object.specs.Numbered.{AreSmall}
 use Rattle.cov_object.specs.declared.file.FileCoverage.{FileCoverage}
 use Rattle.cov_object.specs.declared.file.FunctionCoverage.{FunctionCoverage}
 
@@ -20,6 +19,3 @@ pub record HasTexts (file : FileCoverage) : Type 0 where
   pub unmapped : file.input_source_map ≡ None
   pub names : HaveNames file.functions
   pub kinds : HaveKinds file.branches
-  pub statements : AreSmall file.statements
-  pub functions : AreSmall file.functions
-  pub branches : AreSmall file.branches

@@ -27,7 +27,7 @@ from_digit first (suc n) = first ∷ from_digit (suc first) n
 abbrev pub is_one_of : ℕ → ℕ → ℕ → Bool
 is_one_of first n c = list_any (λ x. c == x) (from_digit first n)
 
-any_from : (first n c : ℕ) → first ≤ c → c < first + n → is_one_of first n c ≡ true
+pub any_from : (first n c : ℕ) → first ≤ c → c < first + n → is_one_of first n c ≡ true
 any_from first zero c h g = absurd (omega arith)
 any_from first (suc n) c h g = chosen (c == first) (is_one_of (suc first) n c) (λ e. any_from (suc first) n c (above (eqb-false c first e)) (omega arith))
   where
@@ -119,7 +119,7 @@ zero_token : IsToken (Numeral (codes "0"))
 unfolding chars common_token is_gap starts_identifier is_digit unicode_ident lib.Utf8.encode
 zero_token = record { written = refl; utf8 = (codes "0", (refl, refl)); no_gap = refl; some = omega arith; alone = refl }
 
-pub all_digits : (ds : List ℕ) → ((i : ℕ) → i < length ds → (48 ≤ get_or ds i 0) × (get_or ds i 0 ≤ 57)) → list_all is_dig ds ≡ true
+all_digits : (ds : List ℕ) → ((i : ℕ) → i < length ds → (48 ≤ get_or ds i 0) × (get_or ds i 0 ≤ 57)) → list_all is_dig ds ≡ true
 all_digits [] h = refl
 all_digits (d ∷ ds) h =
     let first = h 0 (omega arith) in

@@ -1,5 +1,5 @@
 -- What is proved of rewritten trees, beside that they break no rule.
-use Rattle.std.specs.Prelude.{◌≡◌, ℕ, ◌+◌, ◌*◌, ◌^◌, ◌<◌, ◌≤◌, decimal, ◌++◌, max, Bool, true, false, List, [], ◌∷◌, None, map, codes}
+use Rattle.std.specs.Prelude.{◌≡◌, ℕ, ◌+◌, ◌*◌, ◌≤◌, decimal, ◌++◌, max, Bool, true, false, List, [], ◌∷◌, None, map, codes}
 use Rattle.serde_json.specs.Data.{Data, number, negative, string, array, object, Items, no_items, item, Members, no_members, member, depth}
 use Rattle.js_tree.specs.Codes.{Ordinary, functions_file, functions_stmts}
 use Rattle.js_tree.specs.Height.{height_file, height_stmts}
@@ -81,7 +81,7 @@ SpellsValues = (d : Data) → IsSpelt d → IsExpr (literal d)
 
 -- a number in decimal, as an id is one, may be the key of a member
 abbrev pub NumbersAreKeys : Type 0
-NumbersAreKeys = (n : ℕ) → n < 2 ^ 64 → IsUtf8 (decimal n) × (is_proto (StringKey (json_string (decimal n))) ≡ false)
+NumbersAreKeys = (n : ℕ) → IsUtf8 (decimal n) × (is_proto (StringKey (json_string (decimal n))) ≡ false)
 
 -- the preamble has two levels at most for each of the value's, and its own
 abbrev pub StandsLow : Type 0

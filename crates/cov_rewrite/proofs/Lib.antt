@@ -1,0 +1,10 @@
+pub mod Counted
+pub mod Directives
+pub mod Forms
+pub mod Joined
+pub mod Leaves
+pub mod Linking
+pub mod Pushes
+pub mod Small
+pub mod Steps
+pub mod Valued

@@ -1,0 +1,4 @@
+pub mod Hexadecimal
+pub mod Lists
+pub mod Named
+pub mod Spelt

@@ -1,0 +1,36 @@
+-- A text that was read has its constructs on lines; that of its tree, instrumented, is read again.
+use Rattle.std.proofs.Common.{◌≡◌, ◌≤◌, List, ℕ, length, sym, ap, ap₂, subst, ◌∙◌, rules}
+use Rattle.std.specs.Str.{IsUtf8}
+use Rattle.js_tree.specs.Plain.{File}
+use Rattle.js_tree.specs.Tree.{plain_file}
+use Rattle.js_walk.specs.Constructs.{constructs_file}
+use Rattle.js_text.specs.Limits.{again_limits}
+use Rattle.js_reading.proofs.PlacedTexts.{reads_placed}
+use Rattle.js_layout.specs.Layout.{layout}
+use Rattle.cov_hash.specs.Hash.{hash_text}
+use Rattle.cov_maps.specs.Zero.{zero_file}
+use Rattle.cov_object.specs.Json.{file_data}
+use Rattle.cov_rewritten.specs.Whole.{rewritten}
+use Rattle.cov_sim.specs.Again.{IsReadAgain}
+use Rattle.cov_sim.specs.Instrumented.{own_name, instrumented}
+use Rattle.cov_sim.proofs.Spelt.{reads_sources}
+use Rattle.cov_sim.proofs.instrumenting.text_of.Goals as goal
+
+pub rewrite-requires : goal.rewrite-requires
+rewrite-requires c = reads_placed c.args.source.now.bytes (plain_file c.args.file) c.requires.reads
+
+abbrev with_hash : (path hash : List ℕ) → File → File
+with_hash path hash tree = rewritten (own_name path tree) path hash (file_data (zero_file path hash (constructs_file tree))) tree
+
+pub returns : goal.returns
+returns c =
+    let source = c.args.source.now in
+    let tree = plain_file c.args.file in
+    let path : c.as_str.result.now ≡ source.path = search rules in
+    let hash : c.as_str-2.result.now ≡ hash_text source.bytes = search rules in
+    let text = c.in_ok-text.ensures.same ∙ c.in_ok-print.ensures.bytes ∙ ap layout (c.in_ok-tree.ensures ∙ ap₂ (λ (p h : List ℕ). with_hash p h tree) path hash) in
+    let within = subst (λ text. length text ≤ again_limits.bytes) text c.in_ok-text.ensures.within in
+    record {
+      text = text;
+      again = subst (λ text. IsReadAgain text (instrumented source.path source.bytes tree)) (sym text) (reads_sources source.path source.bytes tree c.requires (subst IsUtf8 path c.as_str.utf8) within);
+    }

@@ -1,0 +1,62 @@
+-- The texts of the sources that are counted.
+use Rattle.std.specs.Prelude.{◌≡◌, ℕ, Bool, not, ◌||◌, true, false, List, [], ◌∷◌, ◌++◌, Option, Some, None}
+use Rattle.serde_json.specs.Data.{Data}
+use Rattle.js_tree.specs.Comments.{ignores_file}
+use Rattle.js_tree.specs.Plain.{File, MakeFile}
+use Rattle.js_tree.specs.declared.words.Comment.{Comment}
+use Rattle.js_walk.specs.Constructs.{constructs_file}
+use Rattle.js_layout.specs.Layout.{layout}
+use Rattle.js_scopes.specs.Accepted.{Accepted}
+use Rattle.js_scopes.specs.Mentions.{mentions_file}
+use Rattle.js_scopes.specs.Names.{names_of}
+use Rattle.cov_hash.specs.Hash.{hash_text}
+use Rattle.cov_maps.specs.Zero.{zero_file}
+use Rattle.cov_object.specs.Json.{file_data}
+use Rattle.cov_preamble.specs.Name.{cov_name}
+use Rattle.cov_rewritten.specs.Whole.{rewritten}
+use Rattle.cov_sources.specs.declared.source.Source.{Source}
+use Rattle.cov_sim.specs.Again.{IsReadAgain}
+use Rattle.cov_sim.specs.declared.instrumented.Instrumented.{Instrumented}
+
+-- the name of its function, and the coverage that it begins with
+abbrev pub own_name : List ℕ → File → List ℕ
+own_name path tree = cov_name path (names_of (mentions_file tree))
+
+abbrev pub zero_data : (path bytes : List ℕ) → File → Data
+zero_data path bytes tree = file_data (zero_file path (hash_text bytes) (constructs_file tree))
+
+-- the tree of a file at a path, with these bytes and this tree, once it counts its own coverage
+abbrev pub instrumented : (path bytes : List ℕ) → File → File
+instrumented path bytes tree = rewritten (own_name path tree) path (hash_text bytes) (zero_data path bytes tree) tree
+
+abbrev pub comments_of : File → List Comment
+comments_of (MakeFile body comments) = comments
+
+-- a comment takes the file out of what is counted
+abbrev pub is_ignored : File → Bool
+is_ignored tree = ignores_file (comments_of tree)
+
+-- the source isn't counted, or a comment takes it out
+abbrev pub is_left_out : Source → File → Bool
+is_left_out source tree = not source.counted || is_ignored tree
+
+-- a source of this tree has this text, which is read again, or none as it isn't counted
+pub data Instruments (source : Source) (tree : File) : Option (List ℕ) → Type 0 where
+  left : is_left_out source tree ≡ true → Instruments source tree None
+  made : is_left_out source tree ≡ false → IsReadAgain (layout (instrumented source.path source.bytes tree)) (instrumented source.path source.bytes tree) →
+      Instruments source tree (Some (layout (instrumented source.path source.bytes tree)))
+
+-- each source is accepted; the list has those that are counted, in their order
+pub data AreInstrumented : List Source → List Instrumented → Type 0 where
+  none : AreInstrumented [] []
+  passed_over : {source : Source} {sources : List Source} {list : List Instrumented} (tree : File) → Accepted source.bytes tree → Instruments source tree None →
+      AreInstrumented sources list → AreInstrumented (source ∷ sources) list
+  counted : {source : Source} {sources : List Source} {list : List Instrumented} (tree : File) (text : List ℕ) → Accepted source.bytes tree → Instruments source tree (Some text) →
+      AreInstrumented sources list → AreInstrumented (source ∷ sources) (record { path = source.path; text = text } ∷ list)
+
+-- ---- for private clauses
+
+-- a list with the text of a source, where it has one
+abbrev pub with_text : Source → Option (List ℕ) → List Instrumented → List Instrumented
+with_text source None list = list
+with_text source (Some text) list = list ++ record { path = source.path; text = text } ∷ []

@@ -1,0 +1,4 @@
+pub mod Again
+pub mod Instrumented
+pub mod Laws
+pub mod Refused
