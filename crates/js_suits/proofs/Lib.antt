@@ -1,0 +1,11 @@
+pub mod Bare
+pub mod Inside
+pub mod Marks
+pub mod Names
+pub mod QuotedUnits
+pub mod Shifts
+pub mod Silent
+pub mod Standing
+pub mod Suited
+pub mod This
+pub mod Whole

@@ -1,0 +1,5 @@
+pub mod Laws
+pub mod Programs
+pub mod Rewritten
+pub mod Settings
+pub mod Suits
