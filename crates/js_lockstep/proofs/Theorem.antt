@@ -111,11 +111,10 @@ module _ (c : Setting) (k : Keeps c) (fresh : Fresh c) (p q : Sources) (counting
       let m6 = made_then c m5 (define_grown c m5.grown.v _ _ (next_object (exports_made a)) (next_object (exports_made b)) _ _ m5.grown.both m5.pair (record { key = refl; value = plain _; enumerable = refl; writable = refl })) in
       let two : Paired m6.grown.v.objects (next_object a + 2) (next_object b + 2) = subst2 (λ o n. Paired m6.grown.v.objects o n) (third_is a) (third_is b) m6.pair in
       let g7 = freeze_grown m6.grown.v _ _ (next_object a + 2) (next_object b + 2) m6.grown.both two in
-      let later4 = later_again g3.later (later_again m6.grown.later g7.later) in
       record {
         grown = grown_again c m1.grown (grown_again c m2.grown (grown_again c g3 (grown_again c m6.grown g7)));
-        exports = later4.objects _ _ none;
-        module_ = later4.objects _ _ one;
+        exports = g7.later.objects _ _ (m6.grown.later.objects _ _ (g3.later.objects _ _ none));
+        module_ = g7.later.objects _ _ (m6.grown.later.objects _ _ (g3.later.objects _ _ one));
         require = g7.later.objects _ _ two;
       }
 
