@@ -4,11 +4,19 @@
 
 const compile = require('./formula').compile;
 const queue = require('./queue').queue;
+const endOfName = require('./tokens').name;
 const table = require('./table').table;
 
 const out = typeof print === 'function' ? print : text => console.log(text);
 
-const LINE = /^\s*([A-Za-z_]\w*)\s*=(?!=)\s*(.*)$/;
+// The name and the formula of a line, or null where it isn't `NAME = FORMULA`.
+function partsOf(line) {
+  const text = line.trim();
+  const end = endOfName(text, 0);
+  const rest = text.slice(end).trim();
+  if (end === 0 || rest[0] !== '=' || rest[1] === '=') return null;
+  return { name: text.slice(0, end), formula: rest.slice(1).trim() };
+}
 
 // The cells of a text by name. A line that is none, or has a formula that is none, is told with its number.
 function cellsOf(text) {
@@ -18,11 +26,11 @@ function cellsOf(text) {
   for (let i = 0; i < lines.length; i++) {
     if (lines[i].trim() === '') continue;
     try {
-      const parts = LINE.exec(lines[i]);
+      const parts = partsOf(lines[i]);
       if (!parts) throw new SyntaxError('no cell');
-      const name = parts[1], formula = compile(parts[2]);
+      const name = parts.name, formula = compile(parts.formula);
       if (Object.keys(cells).includes(name)) throw new SyntaxError(`a second ${name}`);
-      cells[name] = { name, line: i + 1, text: parts[2], formula, users: [], waits: 0 };
+      cells[name] = { name, line: i + 1, text: parts.formula, formula, users: [], waits: 0 };
     } catch (error) {
       if (!(error instanceof SyntaxError)) throw error;
       faults.push({ line: i + 1, message: error.message });

@@ -1,12 +1,169 @@
--- The answer to a text's tree is that to the bytes of the text.
-use Rattle.std.proofs.Common.{◌≡◌, ℕ, List, ◌∙◌, ap}
+-- What a task on a source comes to.
+use Rattle.std.proofs.Common.{◌≡◌, ℕ, ◌⊎◌, inl, inr, List, [], Option, Some, refl, sym, ap, ◌∙◌, subst, arith}
+use Rattle.std.specs.Prelude.{Result, Ok, Err}
 use Rattle.js_tree.specs.Plain.{File}
-use Rattle.js_scopes.specs.Accepted.{Accepted}
+use Rattle.js_text.specs.declared.text.TextFault.TheVariants as text
+use Rattle.js_parser.specs.declared.refused.Refusal as R
+use Rattle.js_parser.specs.declared.refused.Refusal.TheVariants as refusal
+use Rattle.js_meaning.specs.declared.outcome.End.{End}
+use Rattle.js_meaning.specs.World.{PlainRun}
+use Rattle.cov_base.specs.Store.{Held}
+use Rattle.cov_sources.specs.declared.source.Source.{Source}
+use Rattle.cov_sources.specs.declared.why.Why.{Why}
+use Rattle.cov_sources.specs.declared.why.Why.TheVariants as cause
 use Rattle.cov_words.specs.declared.command.SourceTask.{SourceTask}
-use Rattle.cov_commands.specs.Source.{answer_of}
-use Rattle.cov_commands.specs.private.Cause.{HasOnly, IsAnswerTo}
+use Rattle.cov_words.specs.declared.command.SourceTask.TheVariants.{Maps, Exec}
+use Rattle.cov_run.specs.Exec.{EndsAs, Runs}
+use Rattle.cov_run.specs.Laws as L
+use Rattle.cov_run.specs.Laws.{Agree}
+use Rattle.cov_run.specs.Loaded as loaded
+use Rattle.cov_run.specs.Loaded.{IsNoSource, IsSource, IsUnread, Loaded}
+use Rattle.cov_run.specs.declared.fault.LoadFault.{LoadFault}
+use Rattle.cov_run.specs.declared.fault.LoadFault.TheVariants as fault
+use Rattle.cov_run.proofs.Outcomes.{long_none, long_source, none_source, one_outcome, refuses, same_bytes, same_tree, something}
+use Rattle.cov_run.proofs.Sources.{one_run}
+use Rattle.cov_commands.specs.Program.{GivesWay}
+use Rattle.cov_commands.specs.Source.{ComesTo, answer_of_maps, answer_of_run, mapped, maps_text, message_of_cause, message_of_fault, message_of_unread, ran, status_of_end, status_of_fault, status_of_outcome, unloaded, unread}
+use Rattle.cov_commands.specs.Status.{status_of}
 use Rattle.cov_commands.specs.declared.answer.Answer.{Answer}
+use Rattle.cov_commands.specs.declared.status.Status.{Status}
+use Rattle.cov_commands.specs.declared.status.Status.TheVariants as status
 
-module _ (task : SourceTask) (path text bytes : List ℕ) (tree : File) (same : text ≡ bytes) (accepted : Accepted bytes tree) (only : HasOnly bytes tree) where
-  pub answered : (answer : Answer) → answer ≡ answer_of task path text tree → IsAnswerTo task path bytes answer
-  answered answer is = (tree, accepted, only, is ∙ ap (λ bytes. answer_of task path bytes tree) same)
+-- ---- what the code finds
+
+module _ (file : List ℕ) (told : Option Held) where
+  pub maps_answer : {bytes printed : List ℕ} {tree : File} {end : End} → IsSource told file bytes tree → printed ≡ maps_text file bytes tree → end ≡ (answer_of_maps file bytes tree).end →
+      ComesTo file told Maps (Ok (record { output = printed; end = end }))
+  maps_answer good same done = rw (same, done) (mapped good)
+
+  pub wants : (task : SourceTask) → ComesTo file told task (Err fault.Memory)
+  wants Maps = unread loaded.wanting
+  wants (Exec turns) = unloaded loaded.wanting
+
+  pub exec_answer : {sources : List Source} {turns : ℕ} {end : End} {output : List ℕ} → Loaded told file [] (Ok sources) → EndsAs sources file turns end output →
+      ComesTo file told (Exec turns) (Ok (record { output = output; end = end }))
+  exec_answer {turns = turns} loads ends =
+      subst (λ e. ComesTo file told (Exec turns) (Ok (record { output = _; end = e }))) ends.ends
+      (subst (λ o. ComesTo file told (Exec turns) (Ok (record { output = o; end = ends.run.end }))) ends.prints (ran loads ends.runs))
+
+-- ---- a refusal has its status
+
+no_source_status : (told : Option Held) (path bytes : List ℕ) (why : Why) → IsNoSource told path bytes why → status_of (message_of_cause path why) ≡ status.Refused
+no_source_status told path bytes (cause.NoText (text.TooLong count)) bad = let longer = bad.refused.0 in let within = bad.within in absurd (omega (arith, longer, within))
+no_source_status told path bytes (cause.NoText (text.NotUtf8 at)) bad = refl
+no_source_status told path bytes (cause.NoText text.Memory) bad = absurd bad.refused
+no_source_status told path bytes (cause.Unread refused place) bad = by refused.why bad.refused.caused
+  where
+    by : (why : R.Refusal) → (why ≡ refusal.Memory → ⊥) → status_of (message_of_unread path place why) ≡ status.Refused
+    by refusal.Syntax caused = refl
+    by (refusal.Unsupported form) caused = refl
+    by refusal.TooDeep caused = refl
+    by refusal.Memory caused = absurd (caused refl)
+no_source_status told path bytes (cause.Broken broken) bad = refl
+
+unread_refused : (told : Option Held) (path place : List ℕ) (why : Why) (outcome : LoadFault) → outcome ≡ fault.Refused place why → IsUnread told path outcome → (bytes : List ℕ) × IsNoSource told place bytes why
+unread_refused told path place why outcome is (loaded.no_file none) = absurd cc
+unread_refused told path place why outcome is (loaded.too_long long) = absurd cc
+unread_refused told path place why outcome is (loaded.refused {bytes = bytes} {why = w} bad) =
+    let paths : path ≡ place = cc in
+    let causes : w ≡ why = cc in
+    (bytes, subst (λ p. IsNoSource told p bytes why) paths (subst (λ c. IsNoSource told path bytes c) causes bad))
+unread_refused told path place why outcome is loaded.failed = absurd cc
+unread_refused told path place why outcome is loaded.wanting = absurd cc
+
+pub fault_status : (file : List ℕ) (told : Option Held) (task : SourceTask) (why : LoadFault) → ComesTo file told task (Err why) → status_of (message_of_fault file why) ≡ status_of_fault why
+fault_status file told task fault.NoFile comes = refl
+fault_status file told Maps (fault.Refused path why) (unread is) = let bad = unread_refused told file path why (fault.Refused path why) refl is in no_source_status told path bad.0 why bad.1
+fault_status file told (Exec turns) (fault.Refused path why) (unloaded loads) = let bad = refuses told file [] path why loads in no_source_status told path bad.0 why bad.1
+fault_status file told task (fault.TooLong path) comes = refl
+fault_status file told task fault.TooManyFiles comes = refl
+fault_status file told task (fault.ReadFault path) comes = refl
+fault_status file told task fault.Memory comes = refl
+
+-- ---- what is held decides what a task comes to
+
+-- the same status, or one of the two gives way
+abbrev pub Same : Status → Status → Type 0
+Same one other = (one ≡ other) ⊎ GivesWay one ⊎ GivesWay other
+
+both_faults : {one other : LoadFault} → Agree (Err one) (Err other) → Same (status_of_fault one) (status_of_fault other)
+both_faults L.no_file = inl refl
+both_faults L.refused = inl refl
+both_faults L.too_long = inl refl
+both_faults L.too_many = inl refl
+both_faults L.one_failed = inr (inl (inl refl))
+both_faults L.other_failed = inr (inr (inl refl))
+both_faults L.one_wants = inr (inl (inr (inr refl)))
+both_faults L.other_wants = inr (inr (inr (inr refl)))
+
+second_fault : {sources : List Source} {other : LoadFault} → Agree (Ok sources) (Err other) → GivesWay (status_of_fault other)
+second_fault L.other_failed = inl refl
+second_fault L.other_wants = inr (inr refl)
+
+first_fault : {sources : List Source} {one : LoadFault} → Agree (Err one) (Ok sources) → GivesWay (status_of_fault one)
+first_fault L.one_failed = inl refl
+first_fault L.one_wants = inr (inr refl)
+
+no_fault : {ones others : List Source} → Agree (Ok ones) (Ok others) → ones ≡ others
+no_fault L.loaded = refl
+
+ok_is : {one other : Answer} → (◌≡◌) {A = Result Answer LoadFault} (Ok one) (Ok other) → other ≡ one
+ok_is is = cc
+
+module _ (held : Held) (file : List ℕ) where
+  both_unread : {one other : LoadFault} → IsUnread (Some held) file one → IsUnread (Some held) file other → Same (status_of_fault one) (status_of_fault other)
+  both_unread (loaded.no_file none) (loaded.no_file also) = inl refl
+  both_unread (loaded.no_file none) (loaded.too_long long) = absurd (something held file none long.held)
+  both_unread (loaded.no_file none) (loaded.refused bad) = absurd (something held file none bad.held)
+  both_unread (loaded.no_file none) loaded.failed = inr (inr (inl refl))
+  both_unread (loaded.no_file none) loaded.wanting = inr (inr (inr (inr refl)))
+  both_unread (loaded.too_long long) (loaded.no_file none) = absurd (something held file none long.held)
+  both_unread (loaded.too_long long) (loaded.too_long also) = inl refl
+  both_unread (loaded.too_long long) (loaded.refused bad) = absurd (long_none held file long bad)
+  both_unread (loaded.too_long long) loaded.failed = inr (inr (inl refl))
+  both_unread (loaded.too_long long) loaded.wanting = inr (inr (inr (inr refl)))
+  both_unread (loaded.refused bad) (loaded.no_file none) = absurd (something held file none bad.held)
+  both_unread (loaded.refused bad) (loaded.too_long long) = absurd (long_none held file long bad)
+  both_unread (loaded.refused bad) (loaded.refused also) = inl refl
+  both_unread (loaded.refused bad) loaded.failed = inr (inr (inl refl))
+  both_unread (loaded.refused bad) loaded.wanting = inr (inr (inr (inr refl)))
+  both_unread loaded.failed other = inr (inl (inl refl))
+  both_unread loaded.wanting other = inr (inl (inr (inr refl)))
+
+  not_both : {bytes : List ℕ} {tree : File} {why : LoadFault} → IsSource (Some held) file bytes tree → IsUnread (Some held) file why → GivesWay (status_of_fault why)
+  not_both good (loaded.no_file none) = absurd (something held file none good.held)
+  not_both good (loaded.too_long long) = absurd (long_source held file long good)
+  not_both good (loaded.refused bad) = absurd (none_source held file bad good)
+  not_both good loaded.failed = inl refl
+  not_both good loaded.wanting = inr (inr refl)
+
+  same_maps : {one other : List ℕ} {tree leaf : File} → IsSource (Some held) file one tree → IsSource (Some held) file other leaf → answer_of_maps file one tree ≡ answer_of_maps file other leaf
+  same_maps {one = one} {leaf = leaf} here there =
+      ap (answer_of_maps file one) (same_tree held file here there) ∙ ap (λ bytes. answer_of_maps file bytes leaf) (same_bytes held file here.held there.held)
+
+  same_runs : {ones others : List Source} {turns : ℕ} {one other : PlainRun} → ones ≡ others → Runs ones file turns one → Runs others file turns other → one ≡ other
+  same_runs {ones = ones} {turns = turns} {one = one} {other = other} same here there = one_run ones file turns one other here (subst (λ s. Runs s file turns other) (sym same) there)
+
+  pub one_status : (task : SourceTask) {one other : Result Answer LoadFault} → ComesTo file (Some held) task one → ComesTo file (Some held) task other → Same (status_of_outcome one) (status_of_outcome other)
+  one_status task (mapped here) (mapped there) = inl refl
+  one_status task (mapped here) (unread is) = inr (inr (not_both here is))
+  one_status task (unread is) (mapped there) = inr (inl (not_both there is))
+  one_status task (unread is) (unread also) = both_unread is also
+  one_status task (ran here runs) (ran there also) =
+      inl (ap (λ (run : PlainRun). status_of_end run.end) (same_runs (no_fault (one_outcome held file [] (Ok _) (Ok _) here there)) runs also))
+  one_status task (ran here runs) (unloaded there) = inr (inr (second_fault (one_outcome held file [] (Ok _) (Err _) here there)))
+  one_status task (unloaded here) (ran there runs) = inr (inl (first_fault (one_outcome held file [] (Err _) (Ok _) here there)))
+  one_status task (unloaded here) (unloaded there) = both_faults (one_outcome held file [] (Err _) (Err _) here there)
+
+  answers : (task : SourceTask) {one other : Result Answer LoadFault} (first second : Answer) → one ≡ Ok first → other ≡ Ok second →
+      ComesTo file (Some held) task one → ComesTo file (Some held) task other → first ≡ second
+  answers task first second is also (mapped here) (mapped there) = ok_is is ∙ same_maps here there ∙ sym (ok_is also)
+  answers task first second is also (mapped here) (unread there) = absurd cc
+  answers task first second is also (unread here) there = absurd cc
+  answers task first second is also (ran here runs) (ran there again) =
+      ok_is is ∙ ap answer_of_run (same_runs (no_fault (one_outcome held file [] (Ok _) (Ok _) here there)) runs again) ∙ sym (ok_is also)
+  answers task first second is also (ran here runs) (unloaded there) = absurd cc
+  answers task first second is also (unloaded here) there = absurd cc
+
+  pub one_answer : (task : SourceTask) (one other : Answer) → ComesTo file (Some held) task (Ok one) → ComesTo file (Some held) task (Ok other) → one ≡ other
+  one_answer task one other here there = answers task one other refl refl here there

@@ -1,4 +1,4 @@
--- Where a failed read is told, the fault was a failed read.
+-- Where a failed read of coverage files is told, the fault was a failed read.
 use Rattle.std.proofs.Common.{◌≡◌, ℕ, ◌⊎◌, inl, inr, List, refl, sym, ap, ◌∙◌}
 use Rattle.cov_inputs.specs.declared.refusal.Refusal.{Refusal}
 use Rattle.cov_inputs.specs.declared.refusal.Refusal.TheVariants as refusal
@@ -6,11 +6,8 @@ use Rattle.cov_inputs.specs.declared.fault.InputFault.{InputFault}
 use Rattle.cov_inputs.specs.declared.fault.InputFault.TheVariants.{Refused, ReadFailed, Memory}
 use Rattle.cov_commands.specs.Line as said
 use Rattle.cov_commands.specs.Coverage.{message_of_refusal}
-use Rattle.cov_commands.specs.private.Cause.{message_at}
 use Rattle.cov_commands.specs.Status.{status_of}
 use Rattle.cov_commands.specs.private.Performed.{message_of_fault}
-use Rattle.cov_commands.specs.declared.fault.Fault.{Fault}
-use Rattle.cov_commands.specs.declared.fault.Fault.TheVariants as fault
 use Rattle.cov_commands.specs.declared.status.Status.{Status}
 use Rattle.cov_commands.specs.declared.status.Status.TheVariants as status
 
@@ -18,28 +15,6 @@ use Rattle.cov_commands.specs.declared.status.Status.TheVariants as status
 told : (message : said.Message) (result : Status) → (result ≡ status_of message) ⊎ (result ≡ status.Memory) → result ≡ status.ReadFault → status_of message ≡ status.ReadFault
 told message result (inl e) is = sym e ∙ is
 told message result (inr e) is = let both = sym e ∙ is in cc
-
--- ---- a source
-
-of_source : (path : List ℕ) (why : Fault) → status_of (message_at why path) ≡ status.ReadFault → why ≡ fault.ReadFailed
-of_source path fault.NoFile is = absurd cc
-of_source path fault.ReadFailed is = refl
-of_source path fault.TooLong is = absurd cc
-of_source path (fault.NotUtf8 n) is = absurd cc
-of_source path (fault.Syntax place) is = absurd cc
-of_source path (fault.Unsupported place form) is = absurd cc
-of_source path (fault.TooDeep place) is = absurd cc
-of_source path (fault.Broken rule) is = absurd cc
-of_source path fault.WriteFailed is = absurd cc
-of_source path fault.OutOfMemory is = absurd cc
-
-pub source_read : (path : List ℕ) (why : Fault) (message : said.Message) (result : Status) → message ≡ message_at why path → (result ≡ status_of message) ⊎ (result ≡ status.Memory) →
-    result ≡ status.ReadFault → (why ≡ fault.ReadFailed) × (message ≡ said.ReadFailed path)
-source_read path why message result says ends is =
-    let same : why ≡ fault.ReadFailed = of_source path why (ap status_of (sym says) ∙ told message result ends is) in
-    (same, says ∙ ap (λ w. message_at w path) same)
-
--- ---- coverage files
 
 of_refusal : (why : Refusal) → status_of (message_of_refusal why) ≡ status.ReadFault → ⊥
 of_refusal (refusal.NoFile path) is = cc

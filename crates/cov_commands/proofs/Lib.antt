@@ -1,12 +1,9 @@
 pub mod Answered
 pub mod Due
 pub mod FailedReads
-pub mod Faults
-pub mod Fits
 pub mod Helped
 pub mod Judged
 pub mod LineLemmas
 pub mod Placed
-pub mod Refusals
 pub mod Stands
 pub mod V8Judged

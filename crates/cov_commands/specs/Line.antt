@@ -30,6 +30,7 @@ pub data Message : Type 0 where
   WriteFailed : Message
   OutOfMemory : Message
   TooLong : (path : List ℕ) → Message
+  TooManyFiles : Message
   NoFile : (path : List ℕ) → Message
   Uncaught : (shown : List ℕ) → Message
   Range : (why : Kind) → Message
@@ -50,6 +51,7 @@ message_of (complaint.ReadFailed path) = ReadFailed path.now
 message_of complaint.WriteFailed = WriteFailed
 message_of complaint.OutOfMemory = OutOfMemory
 message_of (complaint.TooLong path) = TooLong path.now
+message_of complaint.TooManyFiles = TooManyFiles
 message_of (complaint.NoFile path) = NoFile path.now
 message_of (complaint.Uncaught shown) = Uncaught shown.now
 message_of (complaint.Range why) = Range why
@@ -135,6 +137,7 @@ text (ReadFailed path) = codes "Read failed: " ++ path
 text WriteFailed = codes "Write failed"
 text OutOfMemory = codes "Out of memory"
 text (TooLong path) = codes "Limit: " ++ path ++ codes " bytes"
+text TooManyFiles = codes "Limit: files 1024"
 text (NoFile path) = codes "No file: " ++ path
 text (Uncaught shown) = codes "Uncaught " ++ shown
 text (Range why) = codes "Range refusal: " ++ kind_text why

@@ -1,21 +1,14 @@
 -- What is owed for a command on a source, which `maps` and `exec` are: when each status is due, what is printed, and what is said.
-use Rattle.std.specs.Prelude.{◌≡◌, ℕ, false, ◌<◌, ◌≤◌, List, [], ◌∷◌, ◌++◌, length, Option, None, Some, IfSome, codes, if◌then◌else◌}
-use Rattle.std.specs.Str.{IsUtf8}
-use Rattle.std.specs.Str.Lossy.{utf8_valid_len}
+use Rattle.std.specs.Prelude.{◌≡◌, ℕ, List, [], ◌∷◌, ◌++◌, Option, None, Some, Result, Ok, Err, codes, if◌then◌else◌}
 use Rattle.js_tree.specs.declared.place.Pos.{Pos}
 use Rattle.js_tree.specs.Comments.{ignores_file}
 use Rattle.js_tree.specs.Plain.{File, MakeFile}
 use Rattle.js_tree.specs.declared.words.Comment.{Comment}
-use Rattle.js_tree.specs.Height.{height_file}
 use Rattle.js_tree.specs.declared.construct.Construct.{Construct}
 use Rattle.js_walk.specs.Constructs.{constructs_file}
-use Rattle.js_text.specs.Limits.{source_limits}
-use Rattle.js_text.specs.Position.{position}
-use Rattle.js_reading.specs.Reads.{Reads, NoTree, Supported, LeftOut, TooHigh}
-use Rattle.js_reading.specs.declared.unsupported.Unsupported.{Unsupported}
-use Rattle.js_scopes.specs.Accepted.{Accepted}
-use Rattle.js_scopes.specs.Checks.{first_fault}
-use Rattle.js_scopes.specs.declared.fault.ScopeFault.{ScopeFault}
+use Rattle.js_text.specs.declared.text.TextFault.TheVariants as text
+use Rattle.js_parser.specs.declared.refused.Refusal.{Refusal}
+use Rattle.js_parser.specs.declared.refused.Refusal.TheVariants as refusal
 use Rattle.js_meaning.specs.declared.outcome.End.{End}
 use Rattle.js_meaning.specs.declared.outcome.End.TheVariants as outcome
 use Rattle.js_meaning.specs.World.{PlainRun}
@@ -23,18 +16,20 @@ use Rattle.cov_base.specs.Store.{Held}
 use Rattle.cov_base.specs.Sink.{after_more, TakesPrefix}
 use Rattle.cov_object.specs.Json.{json_text}
 use Rattle.cov_maps.specs.Zero.{zero_file}
+use Rattle.cov_sources.specs.declared.source.Source.{Source}
+use Rattle.cov_sources.specs.declared.why.Why.{Why}
+use Rattle.cov_sources.specs.declared.why.Why.TheVariants as why
 use Rattle.cov_words.specs.declared.command.SourceTask.{SourceTask}
 use Rattle.cov_words.specs.declared.command.SourceTask.TheVariants.{Maps, Exec}
-use Rattle.cov_run.specs.Exec.{run_of}
+use Rattle.cov_run.specs.Exec.{Runs}
+use Rattle.cov_run.specs.Loaded.{IsSource, IsUnread, Loaded}
+use Rattle.cov_run.specs.declared.fault.LoadFault.{LoadFault}
+use Rattle.cov_run.specs.declared.fault.LoadFault.TheVariants as fault
 use Rattle.cov_hash.specs.Hash.{hash_text}
 use Rattle.cov_commands.specs.Line as said
 use Rattle.cov_commands.specs.declared.answer.Answer.{Answer}
 use Rattle.cov_commands.specs.declared.status.Status.{Status}
 use Rattle.cov_commands.specs.declared.status.Status.TheVariants as status
-
--- where the store tells what it holds, this is what it holds at the path
-abbrev pub Holds : Option Held → List ℕ → Option (List ℕ) → Type 0
-Holds told path found = IfSome told (λ at. at path ≡ found)
 
 -- ---- what is answered
 
@@ -49,95 +44,49 @@ comments_of (MakeFile body comments) = comments
 abbrev pub maps_text : List ℕ → List ℕ → File → List ℕ
 maps_text path bytes tree = if ignores_file (comments_of tree) then codes "{}" ++ 0x0A ∷ [] else zero_text path bytes (constructs_file tree)
 
+-- the answer of `maps`
+abbrev pub answer_of_maps : List ℕ → List ℕ → File → Answer
+answer_of_maps path bytes tree = record { output = maps_text path bytes tree; end = outcome.Done }
+
 -- the answer of a run: what it printed, and how it ended
 abbrev pub answer_of_run : PlainRun → Answer
 answer_of_run run = record { output = run.store.output; end = run.end }
 
--- the answer to a task on the file at a path that has these bytes and this tree
-abbrev pub answer_of : SourceTask → List ℕ → List ℕ → File → Answer
-answer_of Maps path bytes tree = record { output = maps_text path bytes tree; end = outcome.Done }
-answer_of (Exec turns) path bytes tree = answer_of_run (run_of path tree turns)
+-- ---- what a task comes to; `told` is what the store holds, where it tells
 
--- the status of an end
-abbrev pub status_of_end : End → Status
-status_of_end outcome.Done = status.Ok
-status_of_end (outcome.Threw shown) = status.Threw
-status_of_end (outcome.Range why) = status.Range
-status_of_end outcome.Going = status.Going
-
--- ---- when each status is due; `told` is what the store holds, where it tells
-
--- the file is longer than a source may be
-pub record IsTooLong (file : List ℕ) (told : Option Held) : Type 0 where
-  pub bytes : List ℕ
-  pub held : Holds told file (Some bytes)
-  pub longer : source_limits.bytes < length bytes
-
--- the file is within the limit, and no source
-pub record IsRefused (file : List ℕ) (told : Option Held) (bytes : List ℕ) : Type 0 where
-  pub held : Holds told file (Some bytes)
-  pub within : length bytes ≤ source_limits.bytes
-  pub no_source : (tree : File) → Accepted bytes tree → ⊥
-
--- the file is a source of this tree
-pub record IsAccepted (file : List ℕ) (told : Option Held) (bytes : List ℕ) (tree : File) : Type 0 where
-  pub held : Holds told file (Some bytes)
-  pub accepted : Accepted bytes tree
-
--- the file is a source, and the answer ends with this status
-pub record Ends (result : Status) (task : SourceTask) (file : List ℕ) (told : Option Held) : Type 0 where
-  pub bytes : List ℕ
-  pub tree : File
-  pub accepted : IsAccepted file told bytes tree
-  pub ends : status_of_end (answer_of task file bytes tree).end ≡ result
-
--- the cause of each status; memory may be wanting at any point
-abbrev pub IsDue : Status → SourceTask → List ℕ → Option Held → Type 0
-IsDue status.Ok task file told = Ends status.Ok task file told
-IsDue status.Threw task file told = Ends status.Threw task file told
-IsDue status.Usage task file told = ⊥
-IsDue status.Refused task file told = (bytes : List ℕ) × IsRefused file told bytes
-IsDue status.BadInput task file told = ⊥
-IsDue status.ReadFault task file told = Unit {0}
-IsDue status.WriteFault task file told = (bytes : List ℕ) × (tree : File) × IsAccepted file told bytes tree
-IsDue status.Range task file told = Ends status.Range task file told
-IsDue status.Going task file told = Ends status.Going task file told
-IsDue status.Memory task file told = Unit {0}
-IsDue status.Limit task file told = IsTooLong file told
-IsDue status.Below task file told = ⊥
-IsDue status.NoFile task file told = Holds told file None
-
--- ---- what has been printed
-
--- the output that is defined: of a source that of its answer, else nothing
-pub data IsOutput (task : SourceTask) (file : List ℕ) (told : Option Held) : List ℕ → Type 0 where
-  accepted : {bytes : List ℕ} {tree : File} → IsAccepted file told bytes tree → IsOutput task file told (answer_of task file bytes tree).output
-  none : ((bytes : List ℕ) (tree : File) → IsAccepted file told bytes tree → ⊥) → IsOutput task file told []
-
--- nothing was printed, or a prefix of the output of a source: of the one that is held where the store tells, and else of some
--- content that the file could have
-pub data PrintsPrefix (task : SourceTask) (file : List ℕ) (told : Option Held) (before after : Option (List ℕ)) : Type 0 where
-  nothing : after ≡ before → PrintsPrefix task file told before after
-  some : {bytes : List ℕ} {tree : File} → IsAccepted file told bytes tree → TakesPrefix before after (answer_of task file bytes tree).output →
-      PrintsPrefix task file told before after
-
--- the output of an answer which ends with the status was printed whole
-pub record PrintsOutput (result : Status) (task : SourceTask) (file : List ℕ) (told : Option Held) (before after : Option (List ℕ)) : Type 0 where
-  pub due : Ends result task file told
-  pub printed : after ≡ after_more before (answer_of task file due.bytes due.tree).output
+-- a task on the file at a path: its answer, or why there is none. `maps` reads the file by itself, `exec` loads it with all that it
+-- asks for.
+pub data ComesTo (file : List ℕ) (told : Option Held) : SourceTask → Result Answer LoadFault → Type 0 where
+  mapped : {bytes : List ℕ} {tree : File} → IsSource told file bytes tree → ComesTo file told Maps (Ok (answer_of_maps file bytes tree))
+  unread : {why : LoadFault} → IsUnread told file why → ComesTo file told Maps (Err why)
+  ran : {sources : List Source} {turns : ℕ} {run : PlainRun} → Loaded told file [] (Ok sources) → Runs sources file turns run → ComesTo file told (Exec turns) (Ok (answer_of_run run))
+  unloaded : {turns : ℕ} {why : LoadFault} → Loaded told file [] (Err why) → ComesTo file told (Exec turns) (Err why)
 
 -- ---- the line on standard error
 
--- why a file is refused, and where: it isn't UTF-8 from a byte on; no token that stands at a place can follow those before it, and
--- none of them begins a form that the language leaves out; the token at a place begins one; those before it begin more levels than a
--- source may have; or an early rule is broken there, the first that the tree breaks
-pub data IsRefusal (path bytes : List ℕ) : said.Message → Type 0 where
-  not_utf8 : (IsUtf8 bytes → ⊥) → IsRefusal path bytes (said.NotUtf8 path (utf8_valid_len bytes))
-  syntax : {at : ℕ} → IsUtf8 bytes → NoTree bytes at → Supported bytes at → IsRefusal path bytes (said.Syntax path (position bytes at))
-  left_out : {at : ℕ} {form : Unsupported} → IsUtf8 bytes → LeftOut bytes at form → IsRefusal path bytes (said.LeftOut path (position bytes at) form)
-  too_deep : {at : ℕ} → IsUtf8 bytes → TooHigh bytes at source_limits.height → IsRefusal path bytes (said.TooDeep path (position bytes at))
-  broken : {tree : File} {fault : ScopeFault} → IsUtf8 bytes → Reads bytes tree → height_file tree ≤ source_limits.height →
-      first_fault false tree ≡ Some fault → IsRefusal path bytes (said.Broken path fault)
+-- what is said of bytes that are no source: they are too many, or no UTF-8 from a byte on; the token at a place can't follow those
+-- before it, or begins a form that the language leaves out, or those before it begin too many levels; or an early rule is broken
+abbrev pub message_of_unread : List ℕ → Pos → Refusal → said.Message
+message_of_unread path place refusal.Syntax = said.Syntax path place
+message_of_unread path place (refusal.Unsupported form) = said.LeftOut path place form
+message_of_unread path place refusal.TooDeep = said.TooDeep path place
+message_of_unread path place refusal.Memory = said.OutOfMemory
+
+abbrev pub message_of_cause : List ℕ → Why → said.Message
+message_of_cause path (why.NoText (text.TooLong count)) = said.TooLong path
+message_of_cause path (why.NoText (text.NotUtf8 at)) = said.NotUtf8 path at
+message_of_cause path (why.NoText text.Memory) = said.OutOfMemory
+message_of_cause path (why.Unread refused place) = message_of_unread path place refused.why
+message_of_cause path (why.Broken broken) = said.Broken path broken
+
+-- why no answer comes of the file at a path
+abbrev pub message_of_fault : List ℕ → LoadFault → said.Message
+message_of_fault file fault.NoFile = said.NoFile file
+message_of_fault file (fault.Refused path cause) = message_of_cause path cause
+message_of_fault file (fault.TooLong path) = said.TooLong path
+message_of_fault file fault.TooManyFiles = said.TooManyFiles
+message_of_fault file (fault.ReadFault path) = said.ReadFailed path
+message_of_fault file fault.Memory = said.OutOfMemory
 
 -- the steps that a task allows: `maps` runs nothing
 abbrev pub turns_of : SourceTask → ℕ
@@ -151,26 +100,80 @@ said_of task (outcome.Threw shown) = Some (said.Uncaught shown)
 said_of task (outcome.Range why) = Some (said.Range why)
 said_of task outcome.Going = Some (said.Going (turns_of task))
 
--- the answer ends with the status, and this is said of that end
-pub record SaysEnd (result : Status) (task : SourceTask) (file : List ℕ) (told : Option Held) (message : said.Message) : Type 0 where
+-- what is said of what a task came to
+abbrev pub said_of_outcome : SourceTask → List ℕ → Result Answer LoadFault → Option said.Message
+said_of_outcome task file (Ok answer) = said_of task answer.end
+said_of_outcome task file (Err why) = Some (message_of_fault file why)
+
+-- ---- the status
+
+abbrev pub status_of_end : End → Status
+status_of_end outcome.Done = status.Ok
+status_of_end (outcome.Threw shown) = status.Threw
+status_of_end (outcome.Range why) = status.Range
+status_of_end outcome.Going = status.Going
+
+abbrev pub status_of_fault : LoadFault → Status
+status_of_fault fault.NoFile = status.NoFile
+status_of_fault (fault.Refused path cause) = status.Refused
+status_of_fault (fault.TooLong path) = status.Limit
+status_of_fault fault.TooManyFiles = status.Limit
+status_of_fault (fault.ReadFault path) = status.ReadFault
+status_of_fault fault.Memory = status.Memory
+
+abbrev pub status_of_outcome : Result Answer LoadFault → Status
+status_of_outcome (Ok answer) = status_of_end answer.end
+status_of_outcome (Err why) = status_of_fault why
+
+-- the task comes to something of this status
+pub record Ends (result : Status) (task : SourceTask) (file : List ℕ) (told : Option Held) : Type 0 where
+  pub outcome : Result Answer LoadFault
+  pub comes : ComesTo file told task outcome
+  pub status : status_of_outcome outcome ≡ result
+
+-- it comes to an answer
+abbrev pub IsAnswered : SourceTask → List ℕ → Option Held → Type 0
+IsAnswered task file told = (answer : Answer) × ComesTo file told task (Ok answer)
+
+-- the cause of each status; memory may be wanting at any point
+abbrev pub IsDue : Status → SourceTask → List ℕ → Option Held → Type 0
+IsDue status.WriteFault task file told = IsAnswered task file told
+IsDue status.Memory task file told = Unit {0}
+IsDue other task file told = Ends other task file told
+
+-- ---- what has been printed
+
+-- the output that is defined: of an answer its own, else nothing
+pub data IsOutput (task : SourceTask) (file : List ℕ) (told : Option Held) : List ℕ → Type 0 where
+  answered : {answer : Answer} → ComesTo file told task (Ok answer) → IsOutput task file told answer.output
+  none : (IsAnswered task file told → ⊥) → IsOutput task file told []
+
+-- nothing was printed, or a prefix of the output of an answer: of the one that what is held comes to where the store tells, and else
+-- of one that it could come to
+pub data PrintsPrefix (task : SourceTask) (file : List ℕ) (told : Option Held) (before after : Option (List ℕ)) : Type 0 where
+  nothing : after ≡ before → PrintsPrefix task file told before after
+  some : {answer : Answer} → ComesTo file told task (Ok answer) → TakesPrefix before after answer.output → PrintsPrefix task file told before after
+
+-- the output of an answer which ends with the status was printed whole
+pub record PrintsOutput (result : Status) (task : SourceTask) (file : List ℕ) (told : Option Held) (before after : Option (List ℕ)) : Type 0 where
+  pub answer : Answer
+  pub comes : ComesTo file told task (Ok answer)
+  pub ends : status_of_end answer.end ≡ result
+  pub printed : after ≡ after_more before answer.output
+
+-- ---- the line that is said
+
+-- the task comes to something of the status, and this is said of it
+pub record SaysOutcome (result : Status) (task : SourceTask) (file : List ℕ) (told : Option Held) (message : said.Message) : Type 0 where
   pub due : Ends result task file told
-  pub said : said_of task (answer_of task file due.bytes due.tree).end ≡ Some message
+  pub said : said_of_outcome task file due.outcome ≡ Some message
 
 -- what is said with each status, but for Ok, with which nothing is
 abbrev pub IsMessage : Status → SourceTask → List ℕ → Option Held → said.Message → Type 0
 IsMessage status.Ok task file told message = ⊥
-IsMessage status.Threw task file told message = SaysEnd status.Threw task file told message
-IsMessage status.Usage task file told message = ⊥
-IsMessage status.Refused task file told message = (bytes : List ℕ) × IsRefused file told bytes × IsRefusal file bytes message
-IsMessage status.BadInput task file told message = ⊥
-IsMessage status.ReadFault task file told message = message ≡ said.ReadFailed file
 IsMessage status.WriteFault task file told message = message ≡ said.WriteFailed
-IsMessage status.Range task file told message = SaysEnd status.Range task file told message
-IsMessage status.Going task file told message = SaysEnd status.Going task file told message
 IsMessage status.Memory task file told message = message ≡ said.OutOfMemory
-IsMessage status.Limit task file told message = IsTooLong file told × (message ≡ said.TooLong file)
-IsMessage status.Below task file told message = ⊥
-IsMessage status.NoFile task file told message = Holds told file None × (message ≡ said.NoFile file)
+IsMessage other task file told message = SaysOutcome other task file told message
 
 -- the line, which with Ok is none
 abbrev pub IsLine : Status → SourceTask → List ℕ → Option Held → List ℕ → Type 0

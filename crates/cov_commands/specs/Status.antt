@@ -32,6 +32,7 @@ status_of (said.ReadFailed path) = ReadFault
 status_of said.WriteFailed = WriteFault
 status_of said.OutOfMemory = Memory
 status_of (said.TooLong path) = Limit
+status_of said.TooManyFiles = Limit
 status_of (said.NoFile path) = NoFile
 status_of (said.Uncaught shown) = Threw
 status_of (said.Range why) = Range

@@ -28,6 +28,7 @@ fn status_of(complaint: &Complaint<'_>) -> Status
         Complaint::WriteFailed => Status::WriteFault,
         Complaint::OutOfMemory => Status::Memory,
         Complaint::TooLong { path: _ } => Status::Limit,
+        Complaint::TooManyFiles => Status::Limit,
         Complaint::NoFile { path: _ } => Status::NoFile,
         Complaint::Uncaught { shown: _ } => Status::Threw,
         Complaint::Range { kind: _ } => Status::Range,

@@ -1,18 +1,45 @@
-ghost use Rattle.std.specs.Prelude.{◌≡◌, IfOk};
-ghost use Rattle.js_tree.specs.Tree.{plain_file};
-ghost use Rattle.cov_run.specs.Exec.{run_of};
-ghost use Rattle.cov_commands.specs.Source.{answer_of_run};
+ghost use Rattle.std.specs.Prelude.{◌≡◌, ℕ, List, Err, IfOk};
+ghost use Rattle.cov_base.specs.Causes.{Rose};
+ghost use Rattle.cov_run.specs.Exec.{AreRead, EndsAs, IsFirst};
+ghost use Rattle.cov_run.specs.declared.fault.LoadFault.TheVariants.{ReadFault};
+ghost use Rattle.cov_words.specs.declared.command.SourceTask.TheVariants.{Exec};
+ghost use Rattle.cov_commands.specs.Source.{ComesTo};
 
 use crate::answer::Answer;
-use cov_run::Ran;
+use cov_base::Store;
+use cov_run::{LoadFault, Ran, load};
+use cov_sources::Source;
 use items::Memory;
-use js_scopes::Checked;
 use std::alloc::Global;
 
-/// The answer of `exec`: what the program printed, and how it ended.
-pub(crate) fn exec(alloc: Global, turns: u64, path: &str, file: Checked) -> Result<Answer, Memory>
-    ensures { IfOk result (λ answer. answer ≡ answer_of_run (run_of path.now (plain_file file) turns)) }
+/// The answer of `exec`: what the program of the file at a path printed, and how it ended.
+pub(crate) fn exec<S: Store>(
+    alloc: Global,
+    turns: u64,
+    path: &str,
+    store: &mut S,
+) -> Result<Answer, LoadFault>
+    ensures comes { ComesTo path.now (S.held store.old) (Exec turns) result }
+    ensures failed { (at : List ℕ) → result ≡ Err (ReadFault at) → (before : S) × S.fails before at store.new }
+    ensures rose { (at : List ℕ) → result ≡ Err (ReadFault at) → Rose (S.read_faults store.old) (S.read_faults store.new) }
+    ensures unchanged { S.held store.new ≡ S.held store.old }
+    ensures puts { S.put_faults store.new ≡ S.put_faults store.old }
 {
-    let Ran { end, output } = cov_run::exec(alloc, path, file, turns)?;
+    match load(alloc, store, path, &[]) {
+        Ok(sources) => match run_of(alloc, path, sources.as_slice(), turns) {
+            Ok(answer) => Ok(answer),
+            Err(_) => Err(LoadFault::Memory),
+        },
+        Err(fault) => Err(fault),
+    }
+}
+
+/// What the first of these sources, which is at a path, printed, and how it ended.
+fn run_of(alloc: Global, path: &str, sources: &[Source], turns: u64) -> Result<Answer, Memory>
+    requires first { IsFirst path.now sources.now }
+    requires read { AreRead sources.now }
+    ensures { IfOk result (λ answer. EndsAs sources.now path.now turns answer.end answer.output) }
+{
+    let Ran { end, output } = cov_run::exec(alloc, path, sources, turns)?;
     Ok(Answer { output, end })
 }

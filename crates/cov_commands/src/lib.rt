@@ -11,13 +11,10 @@ mod help_command;
 mod line;
 mod maps;
 mod perform;
-mod print;
 mod said;
-mod source;
 mod source_command;
 mod status;
 mod v8_command;
-mod work;
 
 pub use complaints::{complain, say_out_of_memory};
 pub use coverage_command::on_coverage;

@@ -55,6 +55,8 @@ pub enum Complaint<'a> {
     TooLong {
         path: &'a str,
     },
+    /// There are more files than the program takes.
+    TooManyFiles,
     /// There is no file at this path.
     NoFile {
         path: &'a str,
@@ -106,6 +108,7 @@ pub fn line(alloc: Global, complaint: &Complaint<'_>) -> Result<Vec<u8>, Memory>
         Complaint::WriteFailed => Vec::from_slice(alloc, "Write failed\n".as_bytes()),
         Complaint::OutOfMemory => Vec::from_slice(alloc, out_of_memory().as_bytes()),
         Complaint::TooLong { path } => too_long_line(alloc, path),
+        Complaint::TooManyFiles => Vec::from_slice(alloc, "Limit: files 1024\n".as_bytes()),
         Complaint::NoFile { path } => Ok(format!(in alloc; "No file: {path}\n")?.into_bytes()),
         Complaint::Uncaught { shown } => uncaught_line(alloc, shown),
         Complaint::Range { kind } => {

@@ -1,16 +1,20 @@
-ghost use Rattle.std.specs.Prelude.{◌≡◌, IfOk};
+ghost use Rattle.std.specs.Prelude.{◌≡◌, ℕ, List, Err, IfOk};
 ghost use Rattle.js_tree.specs.Tree.{plain_file};
 ghost use Rattle.js_walk.specs.Constructs.{constructs_file};
 ghost use Rattle.js_reading.specs.Reads.{Reads};
+ghost use Rattle.cov_base.specs.Causes.{Rose};
 ghost use Rattle.cov_maps.specs.Placed.{ArePlaced};
+ghost use Rattle.cov_run.specs.declared.fault.LoadFault.TheVariants.{ReadFault};
 ghost use Rattle.cov_words.specs.declared.command.SourceTask.TheVariants.{Maps};
 ghost use Rattle.cov_commands.specs.Source as spec;
 
 use crate::answer::Answer;
+use cov_base::Store;
 use cov_hash::hash_of;
 use cov_hints::ignores_file;
 use cov_maps::{Construct, constructs, zero};
 use cov_object::{CoverageMap, write_json};
+use cov_run::{LoadFault, read_source};
 use items::{Items, Memory};
 use js_meaning::End;
 use js_scopes::Checked;
@@ -52,14 +56,22 @@ fn printed_for(alloc: Global, path: &str, text: &Text, file: Checked) -> Result<
     }
 }
 
-/// The answer of `maps`: its text, and no end but that it is done.
-pub(crate) fn maps(alloc: Global, path: &str, text: &Text, file: Checked) -> Result<Answer, Memory>
-    requires { Reads text.now (plain_file file) }
-    ensures { IfOk result (λ answer. answer ≡ spec.answer_of Maps path.now text.now (plain_file file)) }
+/// The answer of `maps`: the text of the file at a path by itself, and no end but that it is done.
+pub(crate) fn maps<S: Store>(alloc: Global, path: &str, store: &mut S) -> Result<Answer, LoadFault>
+    ensures comes { spec.ComesTo path.now (S.held store.old) Maps result }
+    ensures failed { (at : List ℕ) → result ≡ Err (ReadFault at) → (before : S) × S.fails before at store.new }
+    ensures rose { (at : List ℕ) → result ≡ Err (ReadFault at) → Rose (S.read_faults store.old) (S.read_faults store.new) }
+    ensures unchanged { S.held store.new ≡ S.held store.old }
+    ensures puts { S.put_faults store.new ≡ S.put_faults store.old }
 {
-    let printed = printed_for(alloc, path, text, file)?;
-    Ok(Answer {
-        output: Items::from_vec(printed),
-        end: End::Done,
-    })
+    match read_source(alloc, store, path) {
+        Ok((text, file)) => match printed_for(alloc, path, &text, file) {
+            Ok(printed) => Ok(Answer {
+                output: Items::from_vec(printed),
+                end: End::Done,
+            }),
+            Err(_) => Err(LoadFault::Memory),
+        },
+        Err(fault) => Err(fault),
+    }
 }

@@ -4,11 +4,13 @@ ghost use Rattle.cov_base.specs.Sink.{TakesPrefix};
 ghost use Rattle.cov_words.specs.declared.command.Command.TheVariants.{OnSource};
 ghost use Rattle.cov_commands.specs.Program.{IsDue, Comes, IsOutput, PrintsAll, PrintsOutput, PrintsPrefix, PrintsNothing, SaysFailedRead, SaysLines, SaysAtMost};
 
+use crate::answer::answer_to;
 use crate::complaints::complain;
+use crate::fault::complaint_of_fault;
+use crate::line::Complaint;
 use crate::said::said_of;
 use crate::status::Status;
-use crate::work::work;
-use cov_base::{Sink, Store};
+use cov_base::{Failed, Sink, Store, write_all};
 use cov_words::SourceTask;
 use std::alloc::Global;
 
@@ -44,11 +46,16 @@ pub fn on_source<S: Store, O: Sink, E: Sink>(
     ensures one_line { result ≡ Status.Memory
         → SaysAtMost (Some (OnSource task path.now)) (S.held store.old) (E.taken err.old) (E.taken err.new) }
 {
-    match work(alloc, task, path, store, out) {
-        Ok(end) => match said_of(task, &end) {
+    let answer = match answer_to(alloc, task, path, store) {
+        Ok(answer) => answer,
+        Err(fault) => return complain(alloc, &complaint_of_fault(path, &fault), err),
+    };
+    match write_all(out, answer.output.as_slice()) {
+        Ok(()) => match said_of(task, &answer.end) {
             Some(complaint) => complain(alloc, &complaint, err),
             None => Status::Ok,
         },
-        Err(fault) => complain(alloc, &fault.at(path), err),
+        Err(Failed::Device) => complain(alloc, &Complaint::WriteFailed, err),
+        Err(Failed::Memory) => complain(alloc, &Complaint::OutOfMemory, err),
     }
 }

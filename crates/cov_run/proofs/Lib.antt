@@ -1,3 +1,6 @@
-mod Known
-mod Loading
-mod OneFile
+pub mod Known
+pub mod Loading
+pub mod Outcomes
+pub mod Running
+pub mod Sources
+pub mod Unread

@@ -10,7 +10,7 @@ use Rattle.cov_sources.specs.declared.source.Source.{Source}
 use Rattle.cov_run.specs.Asked.{Asked, before_others, with_file}
 use Rattle.cov_run.specs.Loaded as L
 use Rattle.cov_run.specs.Loaded.{Holds, Loads, is_counted, most, source_of}
-use Rattle.cov_run.specs.private.Step.{Goes, IsEntryFault, IsFileFault, PassesTo, Stops, StopsAt}
+use Rattle.cov_run.specs.private.Step.{Goes, IsUnfound, IsFileFault, PassesTo, Stops, StopsAt}
 use Rattle.cov_run.specs.declared.fault.LoadFault.{LoadFault}
 use Rattle.cov_run.specs.declared.fault.LoadFault.TheVariants as fault
 
@@ -24,7 +24,7 @@ holds_none None path found reads is = tt
 holds_none (Some at) path found reads is = sym reads ∙ ap (option_map (λ (v : Vec ℕ Global). v.items)) is
 
 -- the entry isn't read
-pub stops_entry : (told : Option Held) (exclude : List (List ℕ)) (entry : List ℕ) (asked : Asked) (why : LoadFault) → IsEntryFault told why entry →
+pub stops_entry : (told : Option Held) (exclude : List (List ℕ)) (entry : List ℕ) (asked : Asked) (why : LoadFault) → IsUnfound told why entry →
     Loads told exclude [] (before_others entry asked) (Err why)
 stops_entry told exclude entry asked fault.NoFile is = L.no_file is
 stops_entry told exclude entry asked (fault.Refused at why) is = absurd is

@@ -1,4 +1,5 @@
 pub mod Asked
 pub mod Exec
+pub mod Laws
 pub mod Loaded
 pub mod private

@@ -43,6 +43,14 @@ pub record IsNoSource (told : Option Held) (path bytes : List ℕ) (why : Why) :
   pub refused : IsRefused why bytes
   pub no_source : (tree : File) → Accepted bytes tree → ⊥
 
+-- why the file at a path is no source, by itself
+pub data IsUnread (told : Option Held) (path : List ℕ) : LoadFault → Type 0 where
+  no_file : Holds told path None → IsUnread told path fault.NoFile
+  too_long : {bytes : List ℕ} → IsTooLong told path bytes → IsUnread told path (fault.TooLong path)
+  refused : {bytes : List ℕ} {why : Why} → IsNoSource told path bytes why → IsUnread told path (fault.Refused path why)
+  failed : IsUnread told path (fault.ReadFault path)
+  wanting : IsUnread told path fault.Memory
+
 -- how many sources a program may have
 abbrev pub most : ℕ
 most = 1024

@@ -7,7 +7,7 @@ ghost use Rattle.cov_sources.specs.Refused.{HasOnly};
 ghost use Rattle.cov_run.specs.Asked.{before_others};
 ghost use Rattle.cov_run.specs.Loaded as spec;
 ghost use Rattle.cov_run.specs.declared.fault.LoadFault.TheVariants.{ReadFault};
-ghost use Rattle.cov_run.specs.private.Step.{Goes, GoesOn, Finds, Stops, StopsAt, IsEntryFault, IsFileFault, IsReadFailure};
+ghost use Rattle.cov_run.specs.private.Step.{Goes, GoesOn, Finds, Stops, StopsAt, IsUnfound, IsFileFault, IsReadFailure};
 
 use crate::fault::LoadFault;
 use crate::queue::Queue;
@@ -83,26 +83,30 @@ fn take_entry<S: Store>(
     ensures puts { S.put_faults store.new ≡ S.put_faults store.old }
 {
     let path = Text::from_str(alloc, entry)?;
-    match entry_bytes(alloc, store, entry) {
+    match bytes_at(alloc, store, entry) {
         Ok(bytes) => take(alloc, path, bytes, exclude, queue, sources),
         Err(fault) => Err(fault),
     }
 }
 
-/// The bytes of the file at the path of the entry.
-fn entry_bytes<S: Store>(alloc: Global, store: &mut S, entry: &str) -> Result<Vec<u8>, LoadFault>
-    ensures held { IfOk result (λ bytes. spec.Holds (S.held store.old) entry.now (Some bytes.items)) }
-    ensures fault { IfErr result (λ fault. IsEntryFault (S.held store.old) fault entry.now) }
+/// The bytes of the file at a path.
+pub(crate) fn bytes_at<S: Store>(
+    alloc: Global,
+    store: &mut S,
+    path: &str,
+) -> Result<Vec<u8>, LoadFault>
+    ensures held { IfOk result (λ bytes. spec.Holds (S.held store.old) path.now (Some bytes.items)) }
+    ensures fault { IfErr result (λ fault. IsUnfound (S.held store.old) fault path.now) }
     ensures failed { (at : List ℕ) → result ≡ Err (ReadFault at) → S.fails store.old at store.new }
     ensures rose { (at : List ℕ) → result ≡ Err (ReadFault at) → Rose (S.read_faults store.old) (S.read_faults store.new) }
     ensures later { S.read_faults store.old ≤ S.read_faults store.new }
     ensures unchanged { S.held store.new ≡ S.held store.old }
     ensures puts { S.put_faults store.new ≡ S.put_faults store.old }
 {
-    match store.read(entry) {
+    match store.read(path) {
         Ok(Some(bytes)) => Ok(bytes),
         Ok(None) => Err(LoadFault::NoFile),
-        Err(Failed::Device) => Err(read_failed(alloc, entry)),
+        Err(Failed::Device) => Err(read_failed(alloc, path)),
         Err(Failed::Memory) => Err(LoadFault::Memory),
     }
 }

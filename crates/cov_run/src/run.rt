@@ -1,9 +1,13 @@
-ghost use Rattle.std.specs.Prelude.{◌≡◌, IfOk};
+ghost use Rattle.std.specs.Prelude.{◌≡◌, IfOk, List, map};
+ghost use Rattle.std.specs.List.{AllZip};
 ghost use Rattle.js_tree.specs.Tree.{plain_file};
-ghost use Rattle.js_meaning.specs.Program.{sources_of};
+ghost use Rattle.js_scopes.specs.Accepted.{Accepted};
+ghost use Rattle.js_meaning.specs.Program as program;
 ghost use Rattle.js_machine.specs.Whole.{Begins};
-ghost use Rattle.cov_run.specs.Exec.{one_file, run_of};
+ghost use Rattle.cov_sources.specs.Refused.{HasOnly};
+ghost use Rattle.cov_run.specs.Exec.{AreRead, EndsAs, IsFirst, IsRead, program_of};
 
+use cov_sources::{Source, accept};
 use items::{Items, Memory, Text};
 use js_machine::{Machine, MachineFault, prelude};
 use js_meaning::{End, Program, ProgramFile};
@@ -19,25 +23,14 @@ pub struct Ran {
     pub output: Items<u8>,
 }
 
-/// A machine before the source at a path, by itself and not counted. Want of memory is the only error.
-pub fn start(alloc: Global, path: &str, tree: Checked) -> Result<Machine, Memory>
-    ensures { IfOk result (λ machine. Begins (one_file path.now (plain_file tree)) path.now machine) }
+/// Runs the first of these sources, which is at the path `entry`, in the program of all of them, with
+/// so many steps. None of them is counted. Want of memory is the only error.
+pub fn exec(alloc: Global, entry: &str, sources: &[Source], turns: u64) -> Result<Ran, Memory>
+    requires first { IsFirst entry.now sources.now }
+    requires read { AreRead sources.now }
+    ensures { IfOk result (λ ran. EndsAs sources.now entry.now turns ran.end ran.output) }
 {
-    let program = program_of(alloc, path, tree)?;
-    match Machine::new(alloc, &program, path) {
-        Ok(machine) => Ok(machine),
-        Err(MachineFault::NoEntry) => unreachable!(),
-        Err(MachineFault::Memory) => Err(AllocError),
-    }
-}
-
-/// Runs the source at a path by itself, not counted, with so many steps. Want of memory is the only
-/// error.
-pub fn exec(alloc: Global, path: &str, tree: Checked, turns: u64) -> Result<Ran, Memory>
-    ensures end { IfOk result (λ ran. ran.end ≡ (run_of path.now (plain_file tree) turns).end) }
-    ensures output { IfOk result (λ ran. ran.output ≡ (run_of path.now (plain_file tree) turns).store.output) }
-{
-    let mut machine = start(alloc, path, tree)?;
+    let mut machine = machine_before(alloc, entry, sources)?;
     let end = machine.run(turns)?;
     Ok(Ran {
         end,
@@ -45,19 +38,65 @@ pub fn exec(alloc: Global, path: &str, tree: Checked, turns: u64) -> Result<Ran,
     })
 }
 
-/// The program that is this one source, not counted.
-fn program_of(alloc: Global, path: &str, tree: Checked) -> Result<Program, Memory>
-    ensures { IfOk result (λ program. sources_of program ≡ one_file path.now (plain_file tree)) }
+/// A machine before the first of the sources.
+fn machine_before(alloc: Global, entry: &str, sources: &[Source]) -> Result<Machine, Memory>
+    requires first { IsFirst entry.now sources.now }
+    requires read { AreRead sources.now }
+    ensures { IfOk result (λ machine. (files : List program.Source) × AllZip IsRead sources.now files × Begins (program_of files) entry.now machine) }
 {
-    let file = ProgramFile {
-        path: Text::from_str(alloc, path)?,
-        tree,
-        counted: false,
-    };
-    let mut files = Items::new(alloc);
-    files.push(file)?;
+    let program = program_from(alloc, sources)?;
+    match Machine::new(alloc, &program, entry) {
+        Ok(machine) => Ok(machine),
+        Err(MachineFault::NoEntry) => unreachable!(),
+        Err(MachineFault::Memory) => Err(AllocError),
+    }
+}
+
+/// The program of these sources.
+fn program_from(alloc: Global, sources: &[Source]) -> Result<Program, Memory>
+    requires { AreRead sources.now }
+    ensures { IfOk result (λ made. (files : List program.Source) × AllZip IsRead sources.now files × (program.sources_of made ≡ program_of files)) }
+{
     Ok(Program {
-        files,
+        files: files_of(alloc, sources)?,
         prelude: prelude(alloc)?,
     })
+}
+
+/// The sources as files of a program.
+fn files_of(alloc: Global, sources: &[Source]) -> Result<Items<ProgramFile>, Memory>
+    requires { AreRead sources.now }
+    ensures { IfOk result (λ files. AllZip IsRead sources.now (map program.source_of files)) }
+{
+    let mut files = Items::new(alloc);
+    for source in sources {
+        files.push(file_of(alloc, source)?)?;
+    }
+    Ok(files)
+}
+
+/// A source as a file of a program.
+fn file_of(alloc: Global, source: &Source) -> Result<ProgramFile, Memory>
+    requires { (file : program.Source) × IsRead source.now file }
+    ensures { IfOk result (λ file. IsRead source.now (program.source_of file)) }
+{
+    let tree = tree_of(alloc, source)?;
+    Ok(ProgramFile {
+        path: Text::from_str(alloc, source.path.as_str())?,
+        tree,
+        counted: source.counted,
+    })
+}
+
+/// The tree of a source.
+fn tree_of(alloc: Global, source: &Source) -> Result<Checked, Memory>
+    requires { (file : program.Source) × IsRead source.now file }
+    ensures accepted { IfOk result (λ tree. Accepted source.now.bytes (plain_file tree)) }
+    ensures only { IfOk result (λ tree. HasOnly source.now.bytes (plain_file tree)) }
+{
+    let bytes = Vec::from_slice(alloc, source.bytes.as_slice())?;
+    match accept(alloc, bytes)? {
+        Ok((_, tree)) => Ok(tree),
+        Err(_) => unreachable!(),
+    }
 }

@@ -1,13 +1,13 @@
 // Runs in parts: a machine that is given steps again and again goes on from where it stopped.
 use crate::spelled::{bytes_of, push_lines, push_number};
 use cov_base::Memory;
-use cov_run::start;
-use js_machine::Machine;
-use js_meaning::End;
+use items::{Items, Text as Path};
+use js_machine::{Machine, MachineFault, prelude};
+use js_meaning::{End, Program, ProgramFile};
 use js_parser::parse;
-use js_scopes::check;
+use js_scopes::{Checked, check};
 use js_text::{Limits, Text};
-use std::alloc::Global;
+use std::alloc::{AllocError, Global};
 
 /// Runs a text by so many steps, then by so many more, and so on, as `N,N,.. TEXT` says. For each part all that was
 /// printed so far, and how the run ends with all the steps that were given. False where the text has no run, or where
@@ -41,8 +41,27 @@ fn machine_before(alloc: Global, text: &Text) -> Result<Option<Machine>, Memory>
         return Ok(None);
     };
     match check(alloc, file) {
-        Ok(checked) => Ok(Some(start(alloc, "a.js", checked)?)),
+        Ok(checked) => machine_of_tree(alloc, checked),
         Err(_) => Ok(None),
+    }
+}
+
+/// A machine before a program that is this one file.
+fn machine_of_tree(alloc: Global, tree: Checked) -> Result<Option<Machine>, Memory> {
+    let mut files = Items::new(alloc);
+    files.push(ProgramFile {
+        path: Path::from_str(alloc, "a.js")?,
+        tree,
+        counted: false,
+    })?;
+    let program = Program {
+        files,
+        prelude: prelude(alloc)?,
+    };
+    match Machine::new(alloc, &program, "a.js") {
+        Ok(machine) => Ok(Some(machine)),
+        Err(MachineFault::NoEntry) => Ok(None),
+        Err(MachineFault::Memory) => Err(AllocError),
     }
 }
 

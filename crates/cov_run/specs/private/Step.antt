@@ -40,12 +40,12 @@ abbrev pub Finds : Option Held → Asked → Asked → Option (List ℕ × Vec �
 Finds told asked later None = PassesTo told asked later × (later.waiting ≡ [])
 Finds told asked later (Some found) = PassesTo told asked (before_others found.0 later) × Holds told found.0 (Some found.1.items)
 
--- why the entry isn't read
-abbrev pub IsEntryFault : Option Held → LoadFault → List ℕ → Type 0
-IsEntryFault told fault.NoFile path = Holds told path None
-IsEntryFault told (fault.ReadFault at) path = at ≡ path
-IsEntryFault told fault.Memory path = Unit {0}
-IsEntryFault told other path = ⊥
+-- why a file isn't read
+abbrev pub IsUnfound : Option Held → LoadFault → List ℕ → Type 0
+IsUnfound told fault.NoFile path = Holds told path None
+IsUnfound told (fault.ReadFault at) path = at ≡ path
+IsUnfound told fault.Memory path = Unit {0}
+IsUnfound told other path = ⊥
 
 abbrev pub IsReadFailure : LoadFault → List ℕ → Type 0
 IsReadFailure (fault.ReadFault at) path = at ≡ path

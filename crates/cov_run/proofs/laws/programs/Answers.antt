@@ -1,0 +1,18 @@
+use Rattle.cov_run.proofs.Sources.{all_are_read, begins_with_entry, one_run}
+use Rattle.cov_run.proofs.Outcomes.{one_outcome, refuses}
+use Rattle.cov_run.proofs.laws.programs.Goals as goal
+
+pub returns-clause-one_outcome : goal.returns-clause-one_outcome
+returns-clause-one_outcome c = one_outcome
+
+pub returns-clause-begins : goal.returns-clause-begins
+returns-clause-begins c = begins_with_entry
+
+pub returns-clause-all_are_read : goal.returns-clause-all_are_read
+returns-clause-all_are_read c = all_are_read
+
+pub returns-clause-one_run : goal.returns-clause-one_run
+returns-clause-one_run c = one_run
+
+pub returns-clause-refuses : goal.returns-clause-refuses
+returns-clause-refuses c = refuses
