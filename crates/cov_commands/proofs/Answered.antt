@@ -111,7 +111,7 @@ ok_is : {one other : Answer} → (◌≡◌) {A = Result Answer LoadFault} (Ok o
 ok_is is = cc
 
 module _ (held : Held) (file : List ℕ) where
-  both_unread : {one other : LoadFault} → IsUnread (Some held) file one → IsUnread (Some held) file other → Same (status_of_fault one) (status_of_fault other)
+  pub both_unread : {one other : LoadFault} → IsUnread (Some held) file one → IsUnread (Some held) file other → Same (status_of_fault one) (status_of_fault other)
   both_unread (loaded.no_file none) (loaded.no_file also) = inl refl
   both_unread (loaded.no_file none) (loaded.too_long long) = absurd (something held file none long.held)
   both_unread (loaded.no_file none) (loaded.refused bad) = absurd (something held file none bad.held)
@@ -130,7 +130,7 @@ module _ (held : Held) (file : List ℕ) where
   both_unread loaded.failed other = inr (inl (inl refl))
   both_unread loaded.wanting other = inr (inl (inr (inr refl)))
 
-  not_both : {bytes : List ℕ} {tree : File} {why : LoadFault} → IsSource (Some held) file bytes tree → IsUnread (Some held) file why → GivesWay (status_of_fault why)
+  pub not_both : {bytes : List ℕ} {tree : File} {why : LoadFault} → IsSource (Some held) file bytes tree → IsUnread (Some held) file why → GivesWay (status_of_fault why)
   not_both good (loaded.no_file none) = absurd (something held file none good.held)
   not_both good (loaded.too_long long) = absurd (long_source held file long good)
   not_both good (loaded.refused bad) = absurd (none_source held file bad good)

@@ -2,8 +2,11 @@ pub mod Answered
 pub mod Due
 pub mod FailedReads
 pub mod Helped
+pub mod InstrumentJudged
 pub mod Judged
 pub mod LineLemmas
 pub mod Placed
+pub mod PutBelow
 pub mod Stands
+pub mod Texts
 pub mod V8Judged

@@ -6,7 +6,8 @@ use Rattle.cov_inputs.specs.Inputs.{Input, AreRead}
 use Rattle.cov_words.specs.declared.command.CoverageTask.TheVariants.{Merge, Report, Check}
 use Rattle.cov_commands.specs.Source as source
 use Rattle.cov_words.specs.declared.command.Command.{Command}
-use Rattle.cov_words.specs.declared.command.Command.TheVariants.{Help, OnSource, OnCoverage, OnV8}
+use Rattle.cov_words.specs.declared.command.Command.TheVariants.{Help, OnSource, Instrument, OnCoverage, OnV8}
+use Rattle.cov_commands.specs.Instrument.{Puts}
 use Rattle.cov_commands.specs.Line as said
 use Rattle.cov_commands.specs.Program.{IsDue, Comes, GivesWay, AreLines, PrintsPrefix, Stores, CountsPuts, Says, SaysLines, SaysAtMost}
 use Rattle.cov_commands.specs.Status.{status_of}
@@ -33,6 +34,10 @@ memory_is_said None told = record { stands = gives_way None told (inr (inr refl)
 memory_is_said (Some Help) told = record { stands = gives_way (Some Help) told (inr (inr refl)) tt; are = refl }
 memory_is_said (Some (OnSource task file)) told = record {
   stands = gives_way (Some (OnSource task file)) told (inr (inr refl)) tt;
+  are = (said.OutOfMemory, refl, refl);
+}
+memory_is_said (Some (Instrument out files)) told = record {
+  stands = gives_way (Some (Instrument out files)) told (inr (inr refl)) tt;
   are = (said.OutOfMemory, refl, refl);
 }
 memory_is_said (Some (OnCoverage task files)) told = record {
@@ -78,6 +83,7 @@ pub prints_nothing : (asked : Option Command) (told : Option Held) (before after
 prints_nothing None told before after same = same
 prints_nothing (Some Help) told before after same = (0, omega arith, same ∙ after_nothing before)
 prints_nothing (Some (OnSource task file)) told before after same = source.nothing same
+prints_nothing (Some (Instrument out files)) told before after same = same
 prints_nothing (Some (OnCoverage task files)) told before after same =
     let some = some_inputs files told in
     record { inputs = some.0; read = some.1; taken = (0, omega arith, same ∙ after_nothing before) }
@@ -95,6 +101,8 @@ pub stores_nothing : (asked : Option Command) (told : Option Held) {result : Sta
 stores_nothing None told is = refl
 stores_nothing (Some Help) told is = refl
 stores_nothing (Some (OnSource task file)) told is = refl
+stores_nothing (Some (Instrument out files)) told (inl e) = subst (λ s. Puts s out files told told) (sym e) (inl refl)
+stores_nothing (Some (Instrument out files)) told (inr e) = subst (λ s. Puts s out files told told) (sym e) (inl refl)
 stores_nothing (Some (OnCoverage (Merge out) files)) told is = record {
   others = others_stay told out;
   sums = λ ok. absurd (not_done is ok);
@@ -112,6 +120,7 @@ pub counts_no_puts : (asked : Option Command) (count : ℕ) → CountsPuts asked
 counts_no_puts None count = refl
 counts_no_puts (Some Help) count = refl
 counts_no_puts (Some (OnSource task file)) count = refl
+counts_no_puts (Some (Instrument out files)) count = omega arith
 counts_no_puts (Some (OnCoverage (Merge out) files)) count = omega arith
 counts_no_puts (Some (OnCoverage (Report which) files)) count = refl
 counts_no_puts (Some (OnCoverage (Check thresholds) files)) count = refl

@@ -1,5 +1,6 @@
 pub mod Coverage
 pub mod Help
+pub mod Instrument
 pub mod Line
 pub mod private
 pub mod Program

@@ -5,10 +5,11 @@ use Rattle.cov_base.specs.Store.{Held}
 use Rattle.cov_base.specs.Sink.{after_more, TakesPrefix}
 use Rattle.cov_base.specs.Causes.{Rose}
 use Rattle.cov_words.specs.declared.command.Command.{Command}
-use Rattle.cov_words.specs.declared.command.Command.TheVariants.{Help, OnSource, OnCoverage, OnV8}
+use Rattle.cov_words.specs.declared.command.Command.TheVariants.{Help, OnSource, Instrument, OnCoverage, OnV8}
 use Rattle.cov_words.specs.declared.command.CoverageTask.TheVariants.{Merge}
 use Rattle.cov_commands.specs.Help as help
 use Rattle.cov_commands.specs.Source as source
+use Rattle.cov_commands.specs.Instrument as instrument
 use Rattle.cov_commands.specs.Coverage as coverage
 use Rattle.cov_commands.specs.V8 as v8
 use Rattle.cov_commands.specs.Line as said
@@ -22,6 +23,7 @@ abbrev pub IsDue : Option Command → Status → Option Held → Type 0
 IsDue None wanted told = (wanted ≡ status.Usage) ⊎ (wanted ≡ status.Memory)
 IsDue (Some Help) wanted told = help.IsDue wanted
 IsDue (Some (OnSource task file)) wanted told = source.IsDue wanted task file told
+IsDue (Some (Instrument out files)) wanted told = instrument.IsDue wanted files told
 IsDue (Some (OnCoverage task files)) wanted told = coverage.IsDue wanted task files told
 IsDue (Some (OnV8 out files)) wanted told = v8.IsDue wanted files told
 
@@ -44,6 +46,7 @@ abbrev pub IsOutput : Option Command → Option Held → List ℕ → Type 0
 IsOutput None told output = output ≡ []
 IsOutput (Some Help) told output = output ≡ help.help_text
 IsOutput (Some (OnSource task file)) told output = source.IsOutput task file told output
+IsOutput (Some (Instrument out files)) told output = output ≡ []
 IsOutput (Some (OnCoverage task files)) told output = coverage.IsOutput task files told output
 IsOutput (Some (OnV8 out files)) told output = output ≡ []
 
@@ -52,6 +55,7 @@ abbrev pub PrintsPrefix : Option Command → Option Held → Option (List ℕ) �
 PrintsPrefix None told before after = after ≡ before
 PrintsPrefix (Some Help) told before after = help.PrintsPrefix before after
 PrintsPrefix (Some (OnSource task file)) told before after = source.PrintsPrefix task file told before after
+PrintsPrefix (Some (Instrument out files)) told before after = after ≡ before
 PrintsPrefix (Some (OnCoverage task files)) told before after = coverage.PrintsPrefix task files told before after
 PrintsPrefix (Some (OnV8 out files)) told before after = after ≡ before
 
@@ -69,6 +73,7 @@ abbrev pub PrintsOutput : Option Command → Status → Option Held → Option (
 PrintsOutput None result told before after = ⊥
 PrintsOutput (Some Help) result told before after = help.PrintsOutput before after
 PrintsOutput (Some (OnSource task file)) result told before after = source.PrintsOutput result task file told before after
+PrintsOutput (Some (Instrument out files)) result told before after = after ≡ before
 PrintsOutput (Some (OnCoverage task files)) result told before after = coverage.PrintsOutput result task files told before after
 PrintsOutput (Some (OnV8 out files)) result told before after = after ≡ before
 
@@ -84,14 +89,16 @@ PrintsNothing other = ⊥
 
 -- ---- what the store holds
 
--- `merge` and `v8` put their JSON at their path; all else leaves the store as it was
+-- `instrument` puts texts below its folder, and `merge` and `v8` put their JSON at their path; all else leaves the store as it was
 abbrev pub Stores : Option Command → Status → Option Held → Option Held → Type 0
+Stores (Some (Instrument out files)) result before after = instrument.Puts result out files before after
 Stores (Some (OnCoverage (Merge out) files)) result before after = coverage.Puts result out files before after
 Stores (Some (OnV8 out files)) result before after = v8.Puts result out files before after
 Stores other result before after = after ≡ before
 
 -- and puts nothing, so that no put fails
 abbrev pub CountsPuts : Option Command → ℕ → ℕ → Type 0
+CountsPuts (Some (Instrument out files)) before after = before ≤ after
 CountsPuts (Some (OnCoverage (Merge out) files)) before after = before ≤ after
 CountsPuts (Some (OnV8 out files)) before after = before ≤ after
 CountsPuts other before after = after ≡ before
@@ -105,6 +112,7 @@ AreLines None status.Memory told lines = lines ≡ said.line said.OutOfMemory
 AreLines None other told lines = ⊥
 AreLines (Some Help) result told lines = help.AreLines result lines
 AreLines (Some (OnSource task file)) result told lines = source.IsLine result task file told lines
+AreLines (Some (Instrument out files)) result told lines = instrument.IsLine result files told lines
 AreLines (Some (OnCoverage task files)) result told lines = coverage.AreLines result task files told lines
 AreLines (Some (OnV8 out files)) result told lines = v8.AreLines result files told lines
 

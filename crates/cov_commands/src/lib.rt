@@ -2,12 +2,14 @@
 #![tactic(auto)]
 
 mod answer;
+mod below;
 mod complaints;
 mod coverage_command;
 mod exec;
 mod fault;
 mod help;
 mod help_command;
+mod instrument_command;
 mod line;
 mod maps;
 mod perform;
@@ -15,10 +17,12 @@ mod said;
 mod source_command;
 mod status;
 mod v8_command;
+mod written;
 
 pub use complaints::{complain, say_out_of_memory};
 pub use coverage_command::on_coverage;
 pub use help_command::on_help;
+pub use instrument_command::on_instrument;
 pub use line::Complaint;
 pub use source_command::on_source;
 pub use status::Status;

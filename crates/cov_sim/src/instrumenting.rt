@@ -96,8 +96,9 @@ fn is_left(source: &Source, file: &File) -> bool
     !source.counted || ignores_file(file)
 }
 
-// The text of a source that is accepted, where it is counted and no comment takes it out.
-fn text_for(alloc: Global, source: &Source, file: Checked) -> Result<Option<Text>, Memory>
+/// The text of a source that is accepted, where it is counted and no comment takes it out, as
+/// `instrument_all` gives it. Want of memory is the only error.
+pub fn text_for(alloc: Global, source: &Source, file: Checked) -> Result<Option<Text>, Memory>
     requires { Accepted source.now.bytes (plain_file file) }
     ensures { IfOk result (λ text. Instruments source.now (plain_file file) text) }
 {

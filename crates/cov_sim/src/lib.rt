@@ -9,5 +9,5 @@ mod laws;
 pub use cov_sources::{Source, Sources, Why, accept};
 pub use fault::InstrumentFault;
 pub use instrumented::Instrumented;
-pub use instrumenting::instrument_all;
+pub use instrumenting::{instrument_all, text_for};
 pub use laws::reading;

@@ -5,7 +5,9 @@ ghost use Rattle.cov_words.specs.Words as asked;
 ghost use Rattle.cov_commands.specs.Program.{IsDue, Comes, IsUsage, IsOutput, PrintsAll, PrintsOutput, PrintsPrefix, PrintsNothing, Stores, CountsPuts, SaysFailedRead, SaysLines, SaysAtMost};
 
 use cov_base::{Sink, Store};
-use cov_commands::{Complaint, Status, complain, on_coverage, on_help, on_source, on_v8};
+use cov_commands::{
+    Complaint, Status, complain, on_coverage, on_help, on_instrument, on_source, on_v8,
+};
 use cov_words::{Command, command_of};
 use std::alloc::Global;
 
@@ -14,7 +16,8 @@ use std::alloc::Global;
 ///
 /// Two commands are on a source file: `maps FILE` prints its zero FileCoverage as Istanbul's JSON has
 /// it, and LF; `exec [--turns N] FILE` runs it and prints what it prints, and where the run ends
-/// otherwise than done, that is said after it. Three are on coverage files, which are read and merged
+/// otherwise than done, that is said after it. `instrument --out DIR FILE..` is on source files: it
+/// puts the instrumented text of each below DIR. Three are on coverage files, which are read and merged
 /// one after another: `merge --out P FILE..` puts their JSON and LF at P, `report [--reporter R]
 /// FILE..` prints a report, and `check [--lines N] [--statements N] [--branches N] [--functions N]
 /// FILE..` says which percentages are below their thresholds. `v8 --out P FILE..` is on V8's coverage
@@ -64,6 +67,9 @@ pub fn cov<S: Store, O: Sink, E: Sink>(
         Some(Command::Help) => on_help(alloc, out, err),
         Some(Command::OnSource { task, file }) => {
             on_source(alloc, *task, file.as_str(), store, out, err)
+        }
+        Some(Command::Instrument { out: path, files }) => {
+            on_instrument(alloc, path.as_str(), files.as_slice(), store, err)
         }
         Some(Command::OnCoverage { task, files }) => {
             on_coverage(alloc, task, files.as_slice(), store, out, err)

@@ -1,6 +1,6 @@
 -- The plain forms by clap's definitions, which compute at a word once it is known to begin with no `-`.
-use Rattle.std.proofs.Common.{◌≡◌, ℕ, ◌==◌, ◌&&◌, true, false, List, [], ◌∷◌, None, inl, inr, refl, sym, ap, subst, true≢false, arith}
-use Rattle.std.specs.Prelude.{codes}
+use Rattle.std.proofs.Common.{◌≡◌, ℕ, ◌==◌, ◌&&◌, true, false, List, [], ◌∷◌, Option, Some, None, inl, inr, refl, sym, ap, subst, true≢false, arith}
+use Rattle.std.specs.Prelude.{codes, option_and_then, option_map}
 use Rattle.std.specs.Str.{bytes_eq}
 use Rattle.std.proofs.lemmas.Bool.{ne_eqb}
 use Rattle.clap.specs.Lexer.{strip_byte}
@@ -8,7 +8,9 @@ use Rattle.clap.specs.ValueTests.{is_unsigned_in}
 use Rattle.clap.specs.declared.builder.value_parser.ValueParser.TheVariants as parser
 use Rattle.clap.proofs.OnLiterals.{clap_on_literals}
 use Rattle.clap.proofs.ValueTestLemmas.{accepts-Accepts}
-use Rattle.cov_words.specs.Laws.{IsPlain, MapsFile, ExecFile, ExecTurns, NoTurns, OneFile, MergeFile, ReportFile, CheckFiles, V8File, OtherName}
+use Rattle.path_globs.specs.Source.{source_path}
+use Rattle.cov_words.specs.declared.command.Command.TheVariants.{Instrument}
+use Rattle.cov_words.specs.Laws.{IsPlain, MapsFile, ExecFile, ExecTurns, NoTurns, OneFile, InstrumentFile, MergeFile, ReportFile, CheckFiles, V8File, OtherName}
 use Rattle.cov_words.specs.Words.{command_of, is_help, max_turns}
 use Rattle.cov_words.proofs.WordsLemmas.{is_number}
 
@@ -76,6 +78,15 @@ pub one_file : OneFile
 one_file name first second (inl e) plain other = subst (λ n. command_of (n ∷ first ∷ second ∷ []) ≡ None) (sym e) (of_maps first second plain other)
 one_file name first second (inr e) plain other = subst (λ n. command_of (n ∷ first ∷ second ∷ []) ≡ None) (sym e) (of_exec first second plain other)
 
+pub instrument_file : InstrumentFile
+unfolding clap_on_literals
+instrument_file out file plain other some =
+    rw (no_dashes out plain, no_dash out plain, no_dash out plain, no_dashes file other, no_dash file other, no_dash file other, some) (one (source_path file))
+  where
+    one : (found : Option (List ℕ)) → option_map (Instrument out) (option_and_then (λ path. Some (path ∷ [])) found) ≡ option_map (λ path. Instrument out (path ∷ [])) found
+    one None = refl
+    one (Some path) = refl
+
 pub merge_file : MergeFile
 unfolding clap_on_literals
 merge_file out file plain other some =
@@ -97,5 +108,5 @@ v8_file out file plain other some =
 
 pub other_name : OtherName
 unfolding clap_on_literals
-other_name name words plain no_maps no_exec no_merge no_report no_check no_v8 =
-    rw (no_help name words plain, no_maps, no_exec, no_merge, no_report, no_check, no_v8, no_dashes name plain, no_dash name plain, no_dash name plain) refl
+other_name name words plain no_maps no_exec no_instrument no_merge no_report no_check no_v8 =
+    rw (no_help name words plain, no_maps, no_exec, no_instrument, no_merge, no_report, no_check, no_v8, no_dashes name plain, no_dash name plain, no_dash name plain) refl

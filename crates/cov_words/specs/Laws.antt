@@ -5,7 +5,7 @@ use Rattle.std.specs.Str.{bytes_eq}
 use Rattle.std.specs.Str.Parse.{digits_value, without_leading_plus}
 use Rattle.clap.specs.ValueTests.{is_unsigned_in}
 use Rattle.path_globs.specs.Source.{source_path}
-use Rattle.cov_words.specs.declared.command.Command.TheVariants.{OnSource, OnCoverage, OnV8}
+use Rattle.cov_words.specs.declared.command.Command.TheVariants.{OnSource, Instrument, OnCoverage, OnV8}
 use Rattle.cov_words.specs.declared.command.SourceTask.TheVariants.{Maps, Exec}
 use Rattle.cov_words.specs.declared.command.CoverageTask.TheVariants.{Merge, Report, Check}
 use Rattle.cov_words.specs.declared.command.Reporter.TheVariants as reporter
@@ -38,6 +38,11 @@ abbrev pub OneFile : Type 0
 OneFile = (name first second : List ℕ) → (name ≡ codes "maps") ⊎ (name ≡ codes "exec") → IsPlain first → IsPlain second →
     command_of (name ∷ first ∷ second ∷ []) ≡ None
 
+-- `instrument --out DIR FILE`, where DIR is not empty
+abbrev pub InstrumentFile : Type 0
+InstrumentFile = (out file : List ℕ) → IsPlain out → IsPlain file → bytes_eq out [] ≡ false →
+    command_of (codes "instrument" ∷ codes "--out" ∷ out ∷ file ∷ []) ≡ option_map (λ path. Instrument out (path ∷ [])) (source_path file)
+
 -- `merge --out P FILE`, where P is not empty
 abbrev pub MergeFile : Type 0
 MergeFile = (out file : List ℕ) → IsPlain out → IsPlain file → bytes_eq out [] ≡ false →
@@ -57,8 +62,8 @@ abbrev pub V8File : Type 0
 V8File = (out file : List ℕ) → IsPlain out → IsPlain file → bytes_eq out [] ≡ false →
     command_of (codes "v8" ∷ codes "--out" ∷ out ∷ file ∷ []) ≡ Some (OnV8 out (file ∷ []))
 
--- another name than those of the six commands, whatever follows it
+-- another name than those of the seven commands, whatever follows it
 abbrev pub OtherName : Type 0
 OtherName = (name : List ℕ) (words : List (List ℕ)) → IsPlain name → bytes_eq (codes "maps") name ≡ false → bytes_eq (codes "exec") name ≡ false →
-    bytes_eq (codes "merge") name ≡ false → bytes_eq (codes "report") name ≡ false → bytes_eq (codes "check") name ≡ false → bytes_eq (codes "v8") name ≡ false →
+    bytes_eq (codes "instrument") name ≡ false → bytes_eq (codes "merge") name ≡ false → bytes_eq (codes "report") name ≡ false → bytes_eq (codes "check") name ≡ false → bytes_eq (codes "v8") name ≡ false →
     command_of (name ∷ words) ≡ None

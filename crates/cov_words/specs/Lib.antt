@@ -1,3 +1,4 @@
 pub mod Words
 pub mod WorkedWords
 pub mod Laws
+pub mod private

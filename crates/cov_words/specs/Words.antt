@@ -2,13 +2,15 @@
 --     --help
 --     maps FILE
 --     exec [--turns N] FILE
+--     instrument --out DIR FILE..
 --     merge --out P FILE..
 --     report [--reporter R] FILE..
 --     check [--lines N] [--statements N] [--branches N] [--functions N] FILE..
 --     v8 --out P FILE..
 -- `--help` stands alone. All others are read as the kit's clap says: a form is clap's data, `fault_of` says of a form and words what is wrong with them,
 -- and `subcommand_of` the command that they name and what it finds for each of its arguments.
-use Rattle.std.specs.Prelude.{ℕ, Bool, true, false, List, [], ◌∷◌, Option, Some, None, option_map, option_and_then, if◌then◌else◌, nat_le, codes}
+use Rattle.std.specs.Prelude.{ℕ, Bool, true, false, List, [], ◌∷◌, ◌++◌, Option, Some, None, option_map, option_and_then, if◌then◌else◌, nat_le, codes}
+use Rattle.std.specs.List.{list_any}
 use Rattle.std.specs.Str.{bytes_eq}
 use Rattle.std.specs.Str.Parse.{digits_value, without_leading_plus}
 use Rattle.clap.specs.Lexer.{usize_max}
@@ -19,7 +21,7 @@ use Rattle.clap.specs.ValueTests.{is_unsigned_in}
 use Rattle.clap.specs.declared.builder.value_parser.ValueParser.TheVariants as parser
 use Rattle.cov_summary.specs.declared.shortfall.Thresholds.{Thresholds}
 use Rattle.cov_words.specs.declared.command.Command.{Command}
-use Rattle.cov_words.specs.declared.command.Command.TheVariants.{Help, OnSource, OnCoverage, OnV8}
+use Rattle.cov_words.specs.declared.command.Command.TheVariants.{Help, OnSource, Instrument, OnCoverage, OnV8}
 use Rattle.cov_words.specs.declared.command.SourceTask.{SourceTask}
 use Rattle.cov_words.specs.declared.command.SourceTask.TheVariants.{Maps, Exec}
 use Rattle.cov_words.specs.declared.command.CoverageTask.{CoverageTask}
@@ -53,7 +55,7 @@ turns_rule = record (option_rule (codes "turns")) {
   defaults = codes "1000000" ∷ [];
 }
 
--- `--out P`, which has to be there
+-- `--out P`, or `--out DIR`, which has to be there
 abbrev pub out_rule : Rule
 out_rule = record (option_rule (codes "out")) { required = true }
 
@@ -70,6 +72,9 @@ maps_form = with_rule (new_app (codes "maps")) file_rule
 
 abbrev pub exec_form : App
 exec_form = with_rule (with_rule (new_app (codes "exec")) turns_rule) file_rule
+
+abbrev pub instrument_form : App
+instrument_form = with_rule (with_rule (new_app (codes "instrument")) out_rule) files_rule
 
 abbrev pub merge_form : App
 merge_form = with_rule (with_rule (new_app (codes "merge")) out_rule) files_rule
@@ -92,8 +97,11 @@ v8_form = with_rule (with_rule (new_app (codes "v8")) out_rule) files_rule
 abbrev pub bare : Shape → Shape
 bare form = record form { no_binary_name = true; disable_help_flag = true; disable_help_subcommand = true }
 
+abbrev pub with_source_forms : App → App
+with_source_forms form = with_subcommand (with_subcommand (with_subcommand form maps_form.top) exec_form.top) instrument_form.top
+
 abbrev pub source_forms : App
-source_forms = with_subcommand (with_subcommand (on_top bare (new_app (codes "cov"))) maps_form.top) exec_form.top
+source_forms = with_source_forms (on_top bare (new_app (codes "cov")))
 
 abbrev pub with_coverage_forms : App → App
 with_coverage_forms form = with_subcommand (with_subcommand (with_subcommand form merge_form.top) report_form.top) check_form.top
@@ -111,6 +119,25 @@ file_in rows = option_and_then source_path (first_of (codes "file") rows)
 abbrev pub files_in : List Row → Option (List (List ℕ))
 files_in rows = all_of (codes "file") rows
 
+-- a path more, unless it stands among these already
+abbrev pub is_among : List ℕ → List (List ℕ) → Bool
+is_among path paths = list_any (bytes_eq path) paths
+
+abbrev pub with_path : List (List ℕ) → List ℕ → List (List ℕ)
+with_path paths path = if is_among path paths then paths else paths ++ path ∷ []
+
+-- these paths, and then the source paths that words name; none where a word names none
+abbrev pub with_sources : List (List ℕ) → List Text → Option (List (List ℕ))
+with_sources paths [] = Some paths
+with_sources paths (word ∷ words) = option_and_then (λ path. with_sources (with_path paths path) words) (source_path word)
+
+abbrev pub sources_of : List Text → Option (List (List ℕ))
+sources_of words = with_sources [] words
+
+-- the source paths that a command's FILE.. names, each once, in the order of the words
+abbrev pub sources_in : List Row → Option (List (List ℕ))
+sources_in rows = option_and_then sources_of (files_in rows)
+
 -- the number that a text writes, where it is one of 64 bits; what passed a rule is
 abbrev pub number_in : Text → Option ℕ
 number_in text = if is_unsigned_in 0 18446744073709551615 text then Some (digits_value 10 (without_leading_plus text)) else None
@@ -123,7 +150,7 @@ number_found name rows = option_and_then number_in (one_of name rows)
 abbrev pub turns_in : List Row → Option ℕ
 turns_in rows = number_found (codes "turns") rows
 
--- the path of `merge` and of `v8`, which is not empty
+-- the path of `instrument`, `merge` and `v8`, which is not empty
 abbrev pub if_path : Text → Option Text
 if_path word = if bytes_eq word [] then None else Some word
 
@@ -173,6 +200,9 @@ check_in rows = Check (thresholds_in rows)
 abbrev pub on_source : Option SourceTask → List Row → Option Command
 on_source task rows = option_and_then (λ what. option_map (OnSource what) (file_in rows)) task
 
+abbrev pub instrument_in : List Row → Option Command
+instrument_in rows = option_and_then (λ out. option_map (Instrument out) (sources_in rows)) (out_in rows)
+
 abbrev pub on_coverage : Option CoverageTask → List Row → Option Command
 on_coverage task rows = option_and_then (λ what. option_map (OnCoverage what) (files_in rows)) task
 
@@ -192,8 +222,9 @@ abbrev pub request_in : Text × List Row → Option Command
 request_in (name, rows) =
     if bytes_eq name (codes "maps") then on_source (Some Maps) rows
     else (if bytes_eq name (codes "exec") then on_source (exec_in rows) rows
+    else (if bytes_eq name (codes "instrument") then instrument_in rows
     else (if bytes_eq name (codes "v8") then on_v8 rows
-    else on_coverage (coverage_task name rows) rows))
+    else on_coverage (coverage_task name rows) rows)))
 
 -- the command that the words name, where nothing is wrong with them
 abbrev pub found_in : List Text → Option (Text × List Row)

@@ -1,7 +1,7 @@
 -- Worked examples: what words ask.
 use Rattle.std.specs.Prelude.{◌≡◌, ℕ, List, [], ◌∷◌, map, Option, Some, None, codes}
 use Rattle.cov_words.specs.declared.command.Command.{Command}
-use Rattle.cov_words.specs.declared.command.Command.TheVariants.{Help, OnSource, OnCoverage, OnV8}
+use Rattle.cov_words.specs.declared.command.Command.TheVariants.{Help, OnSource, Instrument, OnCoverage, OnV8}
 use Rattle.cov_words.specs.declared.command.SourceTask.TheVariants as task
 use Rattle.cov_words.specs.declared.command.CoverageTask.TheVariants.{Merge, Report, Check}
 use Rattle.cov_words.specs.declared.command.Reporter.{Reporter}
@@ -49,6 +49,21 @@ exec_rows =
 
 abbrev pub Exec : Type 0
 Exec = Asks exec_rows
+
+-- `instrument`, which needs DIR and one FILE or more, in any order; of files with one normal form there is one
+abbrev pub instrument : List ℕ → List (List ℕ) → Option Command
+instrument out files = Some (Instrument out files)
+
+abbrev pub instrument_rows : List (List (List ℕ) × Option Command)
+instrument_rows =
+    (codes "instrument" ∷ codes "--out" ∷ codes "d" ∷ codes "a.js" ∷ [], instrument (codes "d") (codes "a.js" ∷ [])) ∷
+    (codes "instrument" ∷ codes "b.js" ∷ codes "a.js" ∷ codes "--out=d/e" ∷ [], instrument (codes "d/e") (codes "b.js" ∷ codes "a.js" ∷ [])) ∷
+    (codes "instrument" ∷ codes "a.js" ∷ codes "--out" ∷ codes "d" ∷ codes "./x/../a.js" ∷ codes "b.js" ∷ codes "a.js" ∷ [], instrument (codes "d") (codes "a.js" ∷ codes "b.js" ∷ [])) ∷
+    (codes "instrument" ∷ codes "--out" ∷ codes "d" ∷ codes "--" ∷ codes "-a.js" ∷ codes "--.js" ∷ [], instrument (codes "d") (codes "-a.js" ∷ codes "--.js" ∷ [])) ∷
+    []
+
+abbrev pub Instruments : Type 0
+Instruments = Asks instrument_rows
 
 -- `merge`, which needs P and one FILE or more, in any order
 abbrev pub merge : List ℕ → List (List ℕ) → Option Command
@@ -154,6 +169,14 @@ unread =
     (codes "exec" ∷ codes "a.js" ∷ codes "--turns" ∷ []) ∷
     (codes "exec" ∷ codes "--turn" ∷ codes "1" ∷ codes "a.js" ∷ []) ∷
     (codes "exec" ∷ codes "--turns" ∷ codes "1" ∷ codes "--turns" ∷ codes "2" ∷ codes "a.js" ∷ []) ∷
+    (codes "instrument" ∷ codes "a.js" ∷ []) ∷
+    (codes "instrument" ∷ codes "--out" ∷ codes "d" ∷ []) ∷
+    (codes "instrument" ∷ codes "--out=" ∷ codes "a.js" ∷ []) ∷
+    (codes "instrument" ∷ codes "--out" ∷ [] ∷ codes "a.js" ∷ []) ∷
+    (codes "instrument" ∷ codes "--out" ∷ codes "d" ∷ codes "a.js" ∷ codes "b.json" ∷ []) ∷
+    (codes "instrument" ∷ codes "--out" ∷ codes "d" ∷ codes "a.js" ∷ codes "../b.js" ∷ []) ∷
+    (codes "instrument" ∷ codes "--out" ∷ codes "d" ∷ codes "--out" ∷ codes "e" ∷ codes "a.js" ∷ []) ∷
+    (codes "instrument" ∷ codes "--turns" ∷ codes "1" ∷ codes "--out" ∷ codes "d" ∷ codes "a.js" ∷ []) ∷
     (codes "merge" ∷ codes "a.json" ∷ []) ∷
     (codes "merge" ∷ codes "--out" ∷ codes "p" ∷ []) ∷
     (codes "merge" ∷ codes "--out=" ∷ codes "a.json" ∷ []) ∷

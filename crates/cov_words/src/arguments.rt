@@ -41,7 +41,7 @@ pub(crate) fn file_in(alloc: Global, own: &ArgMatches<'_>) -> Result<Option<Text
 }
 
 /// The words found for an argument of this name.
-fn words_in<'m, 'a>(own: &'m ArgMatches<'a>, name: &str) -> Option<&'m [&'a str]>
+pub(crate) fn words_in<'m, 'a>(own: &'m ArgMatches<'a>, name: &str) -> Option<&'m [&'a str]>
     ensures { option_map (λ words. map (λ word. word.now) words.now) result ≡ all_of name.now (rows_of (found_of own.now)) }
 {
     own.get_strs(name)

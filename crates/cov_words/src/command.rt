@@ -16,6 +16,12 @@ pub enum Command {
         task: CoverageTask,
         files: Items<Text>,
     },
+    /// The instrumented texts of the source files at these source paths, each of which stands once,
+    /// are put below a folder, whose path isn't empty.
+    Instrument {
+        out: Text,
+        files: Items<Text>,
+    },
     /// The sums of what V8's coverage files at these paths tell of their sources are put at a path,
     /// which isn't empty.
     OnV8 {

@@ -23,6 +23,15 @@ pub(crate) fn exec<'a>(alloc: Global) -> Result<Command<'a>, Memory>
         .arg(file(alloc))
 }
 
+/// The form of `instrument`.
+pub(crate) fn instrument<'a>(alloc: Global) -> Result<Command<'a>, Memory>
+    ensures { IfOk result (λ form. (app_of form ≡ spec.instrument_form) × ((fields_of form).has_globals ≡ false)) }
+{
+    Command::new(alloc, "instrument")
+        .arg(out(alloc))?
+        .arg(files(alloc))
+}
+
 /// The form of `merge`.
 pub(crate) fn merge<'a>(alloc: Global) -> Result<Command<'a>, Memory>
     ensures { IfOk result (λ form. (app_of form ≡ spec.merge_form) × ((fields_of form).has_globals ≡ false)) }

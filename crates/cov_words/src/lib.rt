@@ -6,6 +6,7 @@ mod command;
 mod forms;
 mod laws;
 mod rows;
+mod sources;
 mod words;
 
 pub use command::{Command, CoverageTask, Reporter, SourceTask};

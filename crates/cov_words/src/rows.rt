@@ -1,10 +1,11 @@
-ghost use Rattle.cov_words.specs.WorkedWords.{HelpAlone, Maps, Exec, Merges, Reports, Checks, V8s, NoReading};
+ghost use Rattle.cov_words.specs.WorkedWords.{HelpAlone, Maps, Exec, Instruments, Merges, Reports, Checks, V8s, NoReading};
 
 /// What words ask for by the definition, worked out: it computes.
 pub fn worked_words()
     ensures help_alone { HelpAlone }
     ensures maps { Maps }
     ensures exec { Exec }
+    ensures instruments { Instruments }
     ensures merges { Merges }
     ensures reports { Reports }
     ensures checks { Checks }

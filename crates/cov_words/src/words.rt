@@ -4,7 +4,8 @@ ghost use Rattle.clap.specs.declared.builder.command.Command.TheViews.{out-Comma
 ghost use Rattle.cov_words.specs.Words as spec;
 
 use crate::arguments::{file_in, files_in, out_in, reporter_in, thresholds_in, turns_in};
-use crate::forms::{check, exec, maps, merge, report, v8};
+use crate::forms::{check, exec, instrument, maps, merge, report, v8};
+use crate::sources::sources_in;
 use crate::{Command, CoverageTask, SourceTask};
 use clap::ArgMatches;
 use clap::error::ErrorKind;
@@ -63,7 +64,7 @@ fn cov<'a>(alloc: Global) -> Result<clap::Command<'a>, Memory>
     with_coverage_forms(alloc, source_forms(alloc)?)?.subcommand(v8(alloc)?)
 }
 
-/// The forms of the commands on a source.
+/// The form of all words, with the commands on sources.
 fn source_forms<'a>(alloc: Global) -> Result<clap::Command<'a>, Memory>
     ensures { IfOk result (λ form. app_of form ≡ spec.source_forms) }
 {
@@ -71,7 +72,19 @@ fn source_forms<'a>(alloc: Global) -> Result<clap::Command<'a>, Memory>
         .no_binary_name(true)
         .disable_help_flag(true)
         .disable_help_subcommand(true);
-    bare.subcommand(maps(alloc)?)?.subcommand(exec(alloc)?)
+    with_source_forms(alloc, bare)
+}
+
+/// This form, and those of the commands on sources.
+fn with_source_forms<'a>(
+    alloc: Global,
+    form: clap::Command<'a>,
+) -> Result<clap::Command<'a>, Memory>
+    ensures { IfOk result (λ all. app_of all ≡ spec.with_source_forms (app_of form.entry)) }
+{
+    form.subcommand(maps(alloc)?)?
+        .subcommand(exec(alloc)?)?
+        .subcommand(instrument(alloc)?)
 }
 
 /// These forms, and those of the commands on coverage files.
@@ -96,6 +109,7 @@ fn request_in(alloc: Global, matches: &ArgMatches<'_>) -> Result<Option<Command>
     match name {
         "maps" => on_source(alloc, Some(SourceTask::Maps), own),
         "exec" => on_source(alloc, exec_in(own), own),
+        "instrument" => instrument_in(alloc, own),
         "v8" => on_v8(alloc, own),
         _ => on_coverage(alloc, coverage_task(alloc, name, own)?, own),
     }
@@ -114,6 +128,19 @@ fn on_source(
     };
     match file_in(alloc, own)? {
         Some(file) => Ok(Some(Command::OnSource { task, file })),
+        None => Ok(None),
+    }
+}
+
+/// `instrument` of the sources that were found.
+fn instrument_in(alloc: Global, own: &ArgMatches<'_>) -> Result<Option<Command>, Memory>
+    ensures { IfOk result (λ found. found ≡ spec.instrument_in (rows_of (found_of own.now))) }
+{
+    let Some(out) = out_in(alloc, own)? else {
+        return Ok(None);
+    };
+    match sources_in(alloc, own)? {
+        Some(files) => Ok(Some(Command::Instrument { out, files })),
         None => Ok(None),
     }
 }

@@ -125,10 +125,21 @@ impl Setting {
     /// called over the store and the sinks that never do.
     pub(crate) fn call(&self, alloc: Global, words: &str, page: &mut String) -> Result<(), Memory> {
         let words = words_of(alloc, words)?;
+        self.call_with(alloc, words.as_slice(), None, page)
+    }
+
+    // The same, and what the store then holds at the path, where there is one.
+    fn call_with(
+        &self,
+        alloc: Global,
+        words: &[String],
+        path: Option<&str>,
+        page: &mut String,
+    ) -> Result<(), Memory> {
         if self.store.are_none() && self.out.are_none() && self.err.are_none() {
-            self.call_surely(alloc, words.as_slice(), None, page)
+            self.call_surely(alloc, words, path, page)
         } else {
-            self.call_failing(alloc, words.as_slice(), page)
+            self.call_failing(alloc, words, path, page)
         }
     }
 
@@ -143,7 +154,7 @@ impl Setting {
             return Ok(false);
         };
         let words = words_of(alloc, words)?;
-        self.call_surely(alloc, words.as_slice(), Some(path), page)?;
+        self.call_with(alloc, words.as_slice(), Some(path), page)?;
         Ok(true)
     }
 
@@ -203,16 +214,14 @@ impl Setting {
         let mut err = SureSink::new(alloc)?;
         let status = cov(alloc, words, &mut store, &mut out, &mut err);
         push_answer(alloc, out.taken(), err.taken(), status, page)?;
-        match path {
-            Some(path) => push_held(&mut store, path, page),
-            None => Ok(()),
-        }
+        push_held(&mut store, path, page)
     }
 
     fn call_failing(
         &self,
         alloc: Global,
         words: &[String],
+        path: Option<&str>,
         page: &mut String,
     ) -> Result<(), Memory> {
         let fails = copied(alloc, &self.store.fails)?;
@@ -221,7 +230,8 @@ impl Setting {
         let mut out = self.out.sink(alloc)?;
         let mut err = self.err.sink(alloc)?;
         let status = cov(alloc, words, &mut store, &mut out, &mut err);
-        push_answer(alloc, out.taken(), err.taken(), status, page)
+        push_answer(alloc, out.taken(), err.taken(), status, page)?;
+        push_held(&mut store, path, page)
     }
 
     fn held(&self, alloc: Global) -> Result<BTreeMap<String, Vec<u8>>, Memory> {
@@ -249,8 +259,11 @@ fn push_answer(
     page.push_str("\n")
 }
 
-/// The lines that the store holds at a path, if it holds a file there.
-fn push_held(store: &mut SureStore, path: &str, page: &mut String) -> Result<(), Memory> {
+/// The lines that the store holds at a path, if one is named and it holds a file there.
+fn push_held<S: Store>(store: &mut S, path: Option<&str>, page: &mut String) -> Result<(), Memory> {
+    let Some(path) = path else {
+        return Ok(());
+    };
     match store.read(path) {
         Ok(Some(bytes)) => push_lines(page, "+", bytes.as_slice()),
         Ok(None) | Err(_) => Ok(()),

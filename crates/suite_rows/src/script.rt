@@ -7,7 +7,7 @@
 //     wants WHO N      from here on call N to `store`, `out` or `err` wants memory
 //     (no word)        from here on the store is empty, and nothing fails
 //     cov WORDS        calls the program: below it stand the lines printed (`>`) and said (`!`), and the status (`=`)
-//     puts PATH WORDS  the same, and what the store then holds at the path (`+`)
+//     puts PATH WORDS  the same, and what the store then holds at the path (`+`), if anything
 //     breaks WORDS     the same again and again, the first write to `out` failing, then the second, and so on until none
 //                      fails: the status of each call, and how many bytes `out` has taken then (`=`)
 //     parts N,N,.. TEXT   runs the text by so many steps, then by so many more: for each part the lines printed so far

@@ -1,7 +1,7 @@
 -- Each clause from what the words ask.
 use Rattle.std.proofs.Common.{rules, ◌≡◌, Global, Some, None, map, string_bytes, refl, subst}
 use Rattle.cov_words.specs.Words as asked
-use Rattle.cov_words.specs.declared.command.Command.TheVariants.{Help, OnSource, OnCoverage, OnV8}
+use Rattle.cov_words.specs.declared.command.Command.TheVariants.{Help, OnSource, Instrument, OnCoverage, OnV8}
 use Rattle.cov_commands.specs.Program.{PrintsPrefix, SaysAtMost, SaysLines}
 use Rattle.cov_commands.proofs.Stands.{complained, memory_is_said, usage_is_said, says_at_most, prints_nothing, stores_nothing, counts_no_puts}
 use Rattle.cov_tool.proofs.program.cov.Goals as goal
@@ -34,7 +34,7 @@ returns-in-None-clause-one_line g c = λ memory.
     let told = c.complain-in-None.ensures.one_line in
     subst (λ what. SaysAtMost what (g.S.Store.held c.args.store.now) (g.E.Sink.taken c.args.err.now) (g.E.Sink.taken c.complain-in-None.new.err)) none (says_at_most None (g.S.Store.held c.args.store.now) (usage_is_said _) told.1 told.2)
 
--- ---- help, a source, coverage files and V8's
+-- ---- help, a source, sources that are instrumented, coverage files and V8's
 
 pub returns-in-Some-Help-clause-says : goal.returns-in-Some-Help-clause-says
 returns-in-Some-Help-clause-says g c = λ other.
@@ -51,9 +51,14 @@ returns-in-Some-OnSource-clause-says g c = λ other.
     let some : Some (OnSource c.in-Some-OnSource.task c.as_str.result.now) ≡ asked.command_of (map (string_bytes {Z = Global}) c.args.words.now) = search rules in
     subst (λ what. SaysLines what c.on_source.result (g.S.Store.held c.args.store.now) (g.E.Sink.taken c.args.err.now) (g.E.Sink.taken c.on_source.new.err) (g.E.Sink.faults c.args.err.now) (g.E.Sink.faults c.on_source.new.err)) some (c.on_source.ensures.says other)
 
+pub returns-in-Some-Instrument-clause-says : goal.returns-in-Some-Instrument-clause-says
+returns-in-Some-Instrument-clause-says g c = λ other.
+    let some : Some (Instrument c.as_str-in-Some-Instrument.result.now c.as_slice.result.now) ≡ asked.command_of (map (string_bytes {Z = Global}) c.args.words.now) = search rules in
+    subst (λ what. SaysLines what c.on_instrument.result (g.S.Store.held c.args.store.now) (g.E.Sink.taken c.args.err.now) (g.E.Sink.taken c.on_instrument.new.err) (g.E.Sink.faults c.args.err.now) (g.E.Sink.faults c.on_instrument.new.err)) some (c.on_instrument.ensures.says other)
+
 pub returns-in-Some-OnCoverage-clause-says : goal.returns-in-Some-OnCoverage-clause-says
 returns-in-Some-OnCoverage-clause-says g c = λ other.
-    let some : Some (OnCoverage c.in-Some-OnCoverage.task c.as_slice.result.now) ≡ asked.command_of (map (string_bytes {Z = Global}) c.args.words.now) = search rules in
+    let some : Some (OnCoverage c.in-Some-OnCoverage.task c.as_slice-in-Some-OnCoverage.result.now) ≡ asked.command_of (map (string_bytes {Z = Global}) c.args.words.now) = search rules in
     subst (λ what. SaysLines what c.on_coverage.result (g.S.Store.held c.args.store.now) (g.E.Sink.taken c.args.err.now) (g.E.Sink.taken c.on_coverage.new.err) (g.E.Sink.faults c.args.err.now) (g.E.Sink.faults c.on_coverage.new.err)) some (c.on_coverage.ensures.says other)
 
 pub returns-clause-says : goal.returns-clause-says

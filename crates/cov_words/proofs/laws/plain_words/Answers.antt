@@ -1,4 +1,4 @@
-use Rattle.cov_words.proofs.LawsLemmas.{maps_file, exec_file, exec_turns, no_turns, one_file, merge_file, report_file, check_files, v8_file, other_name}
+use Rattle.cov_words.proofs.LawsLemmas.{maps_file, exec_file, exec_turns, no_turns, one_file, instrument_file, merge_file, report_file, check_files, v8_file, other_name}
 use Rattle.cov_words.proofs.laws.plain_words.Goals as goal
 
 pub returns-clause-maps_file : goal.returns-clause-maps_file
@@ -21,6 +21,9 @@ returns-clause-v8_file c = v8_file
 
 pub returns-clause-other_name : goal.returns-clause-other_name
 returns-clause-other_name c = other_name
+
+pub returns-clause-instrument_file : goal.returns-clause-instrument_file
+returns-clause-instrument_file c = instrument_file
 
 pub returns-clause-merge_file : goal.returns-clause-merge_file
 returns-clause-merge_file c = merge_file

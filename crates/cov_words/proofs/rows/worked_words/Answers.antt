@@ -14,6 +14,10 @@ pub returns-clause-exec : goal.returns-clause-exec
 unfolding clap_on_literals
 returns-clause-exec c = refl
 
+pub returns-clause-instruments : goal.returns-clause-instruments
+unfolding clap_on_literals
+returns-clause-instruments c = refl
+
 pub returns-clause-merges : goal.returns-clause-merges
 unfolding clap_on_literals
 returns-clause-merges c = refl

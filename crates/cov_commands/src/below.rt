@@ -1,0 +1,53 @@
+// Texts that are put below a folder.
+ghost use Rattle.std.specs.Prelude.{◌≡◌, Some, string_bytes, IfOk, OnOk, OnErr};
+ghost use Rattle.cov_base.specs.Causes.{HasCause};
+ghost use Rattle.cov_base.specs.Store.{BothTell, PutsAt};
+ghost use Rattle.cov_commands.specs.Instrument as spec;
+ghost use Rattle.cov_commands.specs.private.Written.{IsWritten, files_of};
+
+use crate::written::Written;
+use cov_base::{Failed, Store};
+use items::Memory;
+use std::alloc::Global;
+
+/// Puts these texts below a folder, in their order, until a put fails.
+pub(crate) fn put_all<S: Store>(
+    alloc: Global,
+    store: &mut S,
+    out: &str,
+    list: &[Written],
+) -> Result<(), Failed>
+    requires { spec.Each (IsWritten (S.held store.old)) list.now }
+    ensures all { OnOk result (BothTell (S.held store.old) (S.held store.new) (spec.PutsAll out.now (files_of list.now))) }
+    ensures some { OnErr result (BothTell (S.held store.old) (S.held store.new) (spec.PutsSome out.now (files_of list.now))) }
+    ensures cause { HasCause (S.put_faults store.old) (S.put_faults store.new) result }
+{
+    for written in list {
+        match put_below(alloc, store, out, written) {
+            Ok(()) => {}
+            Err(failed) => return Err(failed),
+        }
+    }
+    Ok(())
+}
+
+/// Puts a text below a folder.
+fn put_below<S: Store>(
+    alloc: Global,
+    store: &mut S,
+    out: &str,
+    written: &Written,
+) -> Result<(), Failed>
+    ensures value { PutsAt (spec.path_below out.now written.now.file) written.now.text (S.held store.old) (S.held store.new) result }
+    ensures cause { HasCause (S.put_faults store.old) (S.put_faults store.new) result }
+{
+    let path = path_below(alloc, out, written.file.as_str())?;
+    store.put(path.as_str(), written.text.as_slice())
+}
+
+/// The path of a file below a folder.
+fn path_below(alloc: Global, out: &str, file: &str) -> Result<String, Memory>
+    ensures { IfOk result (λ path. string_bytes path ≡ spec.path_below out.now file.now) }
+{
+    format!(in alloc; "{out}/{file}")
+}
