@@ -1,0 +1,9 @@
+mod Texts
+mod Ordered
+mod Keys
+mod Read
+mod Data
+mod Values
+mod Files
+mod Changed
+mod Ticks
