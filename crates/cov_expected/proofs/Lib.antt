@@ -1,9 +1,9 @@
-mod Texts
-mod Ordered
+pub mod Texts
+pub mod Ordered
 mod Keys
 mod Read
 mod Data
-mod Values
+pub mod Values
 mod Files
-mod Changed
+pub mod Changed
 mod Ticks

@@ -1,5 +1,5 @@
 -- Values whose texts are UTF-8, whose numbers are whole and from 0 on, and whose objects have their members in order: as data, they tell themselves.
-use Rattle.std.proofs.Common.{◌≡◌, ℕ, suc, ◌≤◌, List, [], ◌∷◌, map, fold, Option, Some, None, IfSome, codes, decimal, refl, sym, ap, ◌∙◌, subst, arith}
+use Rattle.std.proofs.Common.{◌≡◌, ℕ, suc, ◌<◌, ◌^◌, ◌≤◌, List, [], ◌∷◌, map, fold, Option, Some, None, IfSome, codes, decimal, refl, sym, ap, ◌∙◌, subst, arith}
 use Rattle.std.specs.Ordering.{match_ordering}
 use Rattle.std.specs.declared.cmp.Ordering.{Ordering}
 use Rattle.std.specs.declared.cmp.Ordering.TheVariants.{Less, Equal, Greater}
@@ -12,7 +12,7 @@ use Rattle.serde_json.specs.View.{items_of}
 use Rattle.cov_object.specs.Branch.{BranchCoverage}
 use Rattle.cov_object.specs.Json.{by_key, object_of, numbered, count_data, column_data, position_data, location_data, function_data, branch_data, path_counts_data, statements_data, statement_counts_data, functions_data, function_counts_data, branches_data, branch_counts_data, with_hash, with_source_map, file_data}
 use Rattle.cov_object.specs.Numbered.{AreSmall}
-use Rattle.cov_object.specs.private.Formed.{IsStatement, IsFunction, IsBranch, EachThing, IsFormed}
+use Rattle.cov_object.specs.private.Formed.{IsPlace, IsLocated, IsStatement, IsFunction, ArePaths, IsBranch, EachThing, IsFormed}
 use Rattle.cov_object.specs.declared.file.FileCoverage.{FileCoverage}
 use Rattle.cov_object.specs.declared.file.FunctionCoverage.{FunctionCoverage}
 use Rattle.cov_object.specs.declared.file.PathCoverage.{PathCoverage}
@@ -28,7 +28,7 @@ abbrev mutual
   pub IsGood : Data → Type 0
   IsGood null = Unit {0}
   IsGood (boolean b) = Unit {0}
-  IsGood (number (unsigned n)) = Unit {0}
+  IsGood (number (unsigned n)) = n < 2 ^ 53
   IsGood (number (negative z)) = ⊥
   IsGood (number (float x)) = ⊥
   IsGood (string s) = IsUtf8 s
@@ -167,21 +167,21 @@ an_object most ms fits = record { good = (fits.sorted, fits.good); within = omeg
 of_entries : (most : ℕ) (es : List Entry) → AllFit most es → Value (suc most) (object_of es)
 of_entries most es all = an_object most (by_key es) (entries_fit most es all)
 
-count : (n : ℕ) → Value 0 (count_data n)
-count n = record { good = tt; within = omega arith }
+count : (n : ℕ) → n < 2 ^ 53 → Value 0 (count_data n)
+count n low = record { good = low; within = omega arith }
 
-column : (c : Option ℕ) → Value 0 (column_data c)
-column (Some c) = count c
-column None = record { good = tt; within = omega arith }
+column : (c : Option ℕ) → IfSome c (λ n. n < 2 ^ 32) → Value 0 (column_data c)
+column (Some c) low = count c (omega (arith, low))
+column None low = record { good = tt; within = omega arith }
 
-position : (p : Option Position) → Value 1 (position_data p)
-position (Some p) = of_entries 0 ((codes "line", count_data p.line) ∷ (codes "column", column_data p.column) ∷ [])
-    (IsUtf8-are_ascii (codes "line") refl, count p.line, (IsUtf8-are_ascii (codes "column") refl, column p.column, tt))
-position None = of_entries 0 [] tt
+position : (p : Option Position) → IsPlace p → Value 1 (position_data p)
+position (Some p) formed = of_entries 0 ((codes "line", count_data p.line) ∷ (codes "column", column_data p.column) ∷ [])
+    (IsUtf8-are_ascii (codes "line") refl, count p.line (omega (arith, formed.1)), (IsUtf8-are_ascii (codes "column") refl, column p.column formed.2, tt))
+position None formed = of_entries 0 [] tt
 
-location : (l : Location) → Value 2 (location_data l)
-location l = of_entries 1 ((codes "start", position_data l.start) ∷ (codes "end", position_data l.end) ∷ [])
-    (IsUtf8-are_ascii (codes "start") refl, position l.start, (IsUtf8-are_ascii (codes "end") refl, position l.end, tt))
+location : (l : Location) → IsLocated l → Value 2 (location_data l)
+location l formed = of_entries 1 ((codes "start", position_data l.start) ∷ (codes "end", position_data l.end) ∷ [])
+    (IsUtf8-are_ascii (codes "start") refl, position l.start formed.0, (IsUtf8-are_ascii (codes "end") refl, position l.end formed.1, tt))
 
 abbrev EachValue : ℕ → List Data → Type 0
 EachValue most [] = Unit {0}
@@ -198,34 +198,34 @@ items_low most (d ∷ ds) each = omega (arith, each.0.within, items_low most ds 
 an_array : (most : ℕ) (ds : List Data) → EachValue most ds → Value (suc most) (array (items_of ds))
 an_array most ds each = record { good = items_good most ds each; within = omega (arith, items_low most ds each) }
 
-locations : (ps : List PathCoverage) → EachValue 2 (map (λ p. location_data p.location) ps)
-locations [] = tt
-locations (p ∷ ps) = (location p.location, locations ps)
+locations : (ps : List PathCoverage) → ArePaths ps → EachValue 2 (map (λ p. location_data p.location) ps)
+locations [] formed = tt
+locations (p ∷ ps) formed = (location p.location formed.0.0, locations ps formed.1)
 
-counts : (ps : List PathCoverage) → EachValue 0 (map (λ p. count_data p.count) ps)
-counts [] = tt
-counts (p ∷ ps) = (count p.count, counts ps)
+counts : (ps : List PathCoverage) → ArePaths ps → EachValue 0 (map (λ p. count_data p.count) ps)
+counts [] formed = tt
+counts (p ∷ ps) formed = (count p.count formed.0.1, counts ps formed.1)
 
 a_string : (s : List ℕ) (most : ℕ) → IsUtf8 s → Value most (string s)
 a_string s most utf8 = record { good = utf8; within = omega arith }
 
 function : (f : FunctionCoverage) → IsFunction f → Value 3 (function_data f)
 function f formed = of_entries 2 ((codes "name", string f.name) ∷ (codes "decl", location_data f.declaration) ∷ (codes "loc", location_data f.location) ∷ [])
-    (IsUtf8-are_ascii (codes "name") refl, a_string f.name 2 formed.3, (IsUtf8-are_ascii (codes "decl") refl, location f.declaration, (IsUtf8-are_ascii (codes "loc") refl, location f.location, tt)))
+    (IsUtf8-are_ascii (codes "name") refl, a_string f.name 2 formed.3, (IsUtf8-are_ascii (codes "decl") refl, location f.declaration formed.0, (IsUtf8-are_ascii (codes "loc") refl, location f.location formed.1, tt)))
 
 branch : (b : BranchCoverage) → IsBranch b → Value 4 (branch_data b)
 branch b formed = of_entries 3 ((codes "loc", location_data b.location) ∷ (codes "type", string b.kind) ∷ (codes "locations", array (items_of (map (λ p. location_data p.location) b.paths))) ∷ []) (
   IsUtf8-are_ascii (codes "loc") refl,
-  deeper 2 3 (omega arith) (location b.location),
+  deeper 2 3 (omega arith) (location b.location formed.0),
   (
     IsUtf8-are_ascii (codes "type") refl,
     a_string b.kind 3 formed.2,
-    (IsUtf8-are_ascii (codes "locations") refl, an_array 2 (map (λ p. location_data p.location) b.paths) (locations b.paths), tt),
+    (IsUtf8-are_ascii (codes "locations") refl, an_array 2 (map (λ p. location_data p.location) b.paths) (locations b.paths formed.1), tt),
   ),
 )
 
-path_counts : (b : BranchCoverage) → Value 1 (path_counts_data b)
-path_counts b = an_array 0 (map (λ p. count_data p.count) b.paths) (counts b.paths)
+path_counts : (b : BranchCoverage) → IsBranch b → Value 1 (path_counts_data b)
+path_counts b formed = an_array 0 (map (λ p. count_data p.count) b.paths) (counts b.paths formed.1)
 
 things : {T : Type 0} {P : T → Type 0} (most : ℕ) (f : T → Data) → ((x : T) → P x → Value most (f x)) → (xs : List (ℕ × T)) → EachThing P xs → AreSmall xs →
     AllFit most (map (λ thing. (decimal thing.0, f thing.1)) xs)
@@ -257,22 +257,22 @@ entries_value file formed few_statements few_functions few_branches = (
   a_string file.path 5 formed.path_text,
   (
     IsUtf8-are_ascii (codes "statementMap") refl,
-    all_things {P = IsStatement} 2 (λ s. location_data s.location) (λ s f. location s.location) (omega arith) file.statements formed.statements few_statements,
+    all_things {P = IsStatement} 2 (λ s. location_data s.location) (λ s f. location s.location f.0) (omega arith) file.statements formed.statements few_statements,
     (
       IsUtf8-are_ascii (codes "s") refl,
-      all_things {P = IsStatement} 0 (λ s. count_data s.count) (λ s f. count s.count) (omega arith) file.statements formed.statements few_statements,
+      all_things {P = IsStatement} 0 (λ s. count_data s.count) (λ s f. count s.count f.1) (omega arith) file.statements formed.statements few_statements,
       (
         IsUtf8-are_ascii (codes "fnMap") refl,
         all_things {P = IsFunction} 3 function_data function (omega arith) file.functions formed.functions few_functions,
         (
           IsUtf8-are_ascii (codes "f") refl,
-          all_things {P = IsFunction} 0 (λ f. count_data f.count) (λ f g. count f.count) (omega arith) file.functions formed.functions few_functions,
+          all_things {P = IsFunction} 0 (λ f. count_data f.count) (λ f g. count f.count g.2) (omega arith) file.functions formed.functions few_functions,
           (
             IsUtf8-are_ascii (codes "branchMap") refl,
             all_things {P = IsBranch} 4 branch_data branch (omega arith) file.branches formed.branches few_branches,
             (
               IsUtf8-are_ascii (codes "b") refl,
-              all_things {P = IsBranch} 1 path_counts_data (λ b f. path_counts b) (omega arith) file.branches formed.branches few_branches,
+              all_things {P = IsBranch} 1 path_counts_data path_counts (omega arith) file.branches formed.branches few_branches,
               tt,
             ),
           ),

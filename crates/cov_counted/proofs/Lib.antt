@@ -1,0 +1,2 @@
+mod JsonUnits
+mod Literal
