@@ -1,0 +1,10 @@
+//! What linking a rewritten file reads of it. Definitions and proofs.
+#![tactic(auto)]
+
+ghost use Rattle.cov_linked.specs.Linked.{LinksAnyNumbers, LinksRewritten};
+
+/// A rewritten file is linked to the same, whatever numbers its functions have, and whichever file of a program its source is.
+pub fn linked()
+    ensures numbers { LinksAnyNumbers }
+    ensures rewritten { LinksRewritten }
+{}
