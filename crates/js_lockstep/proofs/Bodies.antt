@@ -247,7 +247,7 @@ module _ (c : Setting) (k : Keeps c) (fresh : Fresh c) (p q : Sources) (counting
   -- those that stand apart
   held_value : {w : World} {a b : Heap} {m n : Option Cell} → AlikeFound c w a b m n → Related (Paired w.objects) (value_or undefined (option_and_then (value_of a) m)) (value_or undefined (option_and_then (value_of b) n))
   held_value not_found = plain _
-  held_value (found e f i r v z) = by_held v
+  held_value (found e f i r v z ne) = by_held v
     where
       by_held : {R : ℕ → ℕ → Type 0} {m n : Option Value} → InBoth (Related R) m n → Related R (value_or undefined m) (value_or undefined n)
       by_held neither = plain _

@@ -1,5 +1,5 @@
 -- Expressions go in step with their rewriting.
-use Rattle.std.proofs.Common.{◌≡◌, ℕ, suc, Bool, true, false, List, [], ◌∷◌, ◌++◌, Option, Some, None, refl, sym, ap, ◌∙◌, subst, if◌then◌else◌, codes, Ok, Err, is_some, ℤ, arith}
+use Rattle.std.proofs.Common.{◌≡◌, ◌≢◌, ℕ, suc, Bool, true, false, List, [], ◌∷◌, ◌++◌, Option, Some, None, refl, sym, ap, ◌∙◌, subst, if◌then◌else◌, codes, Ok, Err, is_some, ℤ, arith}
 use Rattle.std.specs.Prelude.{option_map}
 use Rattle.js_tree.specs.declared.operators.BinaryOperator.{BinaryOperator}
 use Rattle.js_tree.specs.declared.operators.BinaryOperator.TheVariants as binary_operator
@@ -49,7 +49,7 @@ use Rattle.cov_rewritten.specs.Rewritten.{expr_marks, is_anonymous}
 use Rattle.js_suits.specs.Rewritten.{count, counted, held as held_in, rewritten_expr, rewritten_exprs, rewritten_code, rewritten_properties, rewritten_property, rewritten_property_key, rewritten_template_parts}
 use Rattle.js_suits.specs.Suits.{SuitsMark, SuitsExpr, SuitsExprs, SuitsCode, SuitsProperty, SuitsProperties, SuitsKey, SuitsParts, IsHeld, is_bare, is_masked}
 use Rattle.js_suits.specs.Settings.{Home, World, Setting, IsFree, Fresh}
-use Rattle.js_lockstep.specs.Worlds.{Later, Around, held, no_names, more_names, AlikeFunctions, AlikeStores, normals}
+use Rattle.js_lockstep.specs.Worlds.{root, Later, Around, held, no_names, more_names, AlikeFunctions, AlikeStores, normals}
 use Rattle.js_lockstep.specs.Counters.{Keeps, Counts}
 use Rattle.js_lockstep.proofs.Holder.{holder_step}
 use Rattle.js_lockstep.specs.Trees.{right, InStep, rets, enters, Ticks}
@@ -57,7 +57,7 @@ use Rattle.js_lockstep.specs.Trees as trees
 use Rattle.js_lockstep.proofs.Rules.{later_same, later_again, then_step, looks_step, at_hand, ticked}
 use Rattle.js_lockstep.proofs.Later.{value_later, values_later, around_later}
 use Rattle.js_lockstep.proofs.Operators.{binary_same}
-use Rattle.js_lockstep.proofs.Heaps.{Both, Made, both_of, new_grown, define_grown, deed_grown}
+use Rattle.js_lockstep.proofs.Heaps.{apart_from_root, Both, Made, both_of, new_grown, define_grown, deed_grown}
 use Rattle.js_lockstep.proofs.Stores.{AlikeFound, not_found, found, lookup_alike}
 use Rattle.js_lockstep.proofs.Scopes.{closed_made, shape_alike, scope_opened}
 use Rattle.js_lockstep.proofs.Members.{get_member_related, put_member_changes, delete_member_changes, in_related, instance_related, type_related}
@@ -280,7 +280,7 @@ module _ (c : Setting) (k : Keeps c) (fresh : Fresh c) (p q : Sources) (counting
 
   there_same : {w : World} {l m : Heap} {a b : Option Cell} → AlikeFound c w l m a b → is_some a ≡ is_some b
   there_same not_found = refl
-  there_same (found e f i r v a) = refl
+  there_same (found e f i r v a ne) = refl
 
   if_there_step : {w : World} {h : Home} {e f : ℕ} {a b : Comp} (x : List ℕ) → IsFree c.name h x → Around w h e f → Step w a b → Step w (M.if_there (Some x) e a) (M.if_there (Some x) f b)
   if_there_step {w} {h} {e} {f} {a} {b} x free r s = looks_step c p q (λ y z t.
@@ -339,9 +339,9 @@ module _ (c : Setting) (k : Keeps c) (fresh : Fresh c) (p q : Sources) (counting
 
     -- Literals
 
-    pub defines_step : {w : World} {o n : ℕ} {v u : Value} (key : List ℕ) → Paired w.objects o n → Related (Paired w.objects) v u → Step w (M.defines o key v) (M.defines n key u)
-    defines_step {w} {o} {n} {v} {u} key i r = grown_step c k p q (define o (assigned key v)) (define n (assigned key u))
-        (λ s t x. define_grown c w s.heap t.heap o n _ _ (both_of c x) i (assigned-alike w.objects (AlikeFunctions c w) key v u r)) (λ s t x. done_step c k p q)
+    pub defines_step : {w : World} {o n : ℕ} {v u : Value} (key : List ℕ) → Paired w.objects o n → n ≢ root → Related (Paired w.objects) v u → Step w (M.defines o key v) (M.defines n key u)
+    defines_step {w} {o} {n} {v} {u} key i apart r = grown_step c k p q (define o (assigned key v)) (define n (assigned key u))
+        (λ s t x. define_grown c w s.heap t.heap o n _ _ (both_of c x) i apart (assigned-alike w.objects (AlikeFunctions c w) key v u r)) (λ s t x. done_step c k p q)
 
     number_key_step : {w : World} (n : Option ℤ) {f g : List ℕ → Comp} → ((key : List ℕ) → Step w (f key) (g key)) → Step w (M.number_key n f) (M.number_key n g)
     number_key_step None h = number_step c k p q None
@@ -364,7 +364,7 @@ module _ (c : Setting) (k : Keeps c) (fresh : Fresh c) (p q : Sources) (counting
           (λ s t x. rets (normals (refs _ _ here))))
       expr_step h (ObjectLiteral loc properties) su w e f r = grown_step c k p q (new_object Plain (Some (number_of place.ObjectPrototype))) (new_object Plain (Some (number_of place.ObjectPrototype)))
           (λ s t x. (object_made w s.heap t.heap (both_of c x)).grown)
-          (λ s t x. properties_step h properties su _ e f (around_later (object_made w s.heap t.heap (both_of c x)).grown.later r) _ _ here)
+          (λ s t x. properties_step h properties su _ e f (around_later (object_made w s.heap t.heap (both_of c x)).grown.later r) _ _ here (apart_from_root c (both_of c x)))
       expr_step h (FunctionExpression loc None function) su w e f r = closure_step h (Ordinary function) [] su.1 r
       expr_step h (FunctionExpression loc (Some name) function) su w e f r = own_named_step h (Ordinary function) name.name su.0 su.1 r
       expr_step h (ArrowFunction loc number params body) su w e f r = closure_step h (Arrow number params body) [] su r
@@ -413,15 +413,15 @@ module _ (c : Setting) (k : Keeps c) (fresh : Fresh c) (p q : Sources) (counting
       parts_step h (more_template_part (MakeTemplatePart x spelled) xs) su w e f r units = then_step c p q (bare h x su.0.1 w e f (expr_step h x su.0.0 w e f r)) (λ v g a b s.
           or_text s (λ inner. parts_step h xs su.1 v e f (around_later g r) (units ++ inner ++ spelled.units)))
 
-      properties_step : (h : Home) (xs : Properties) → SuitsProperties c h xs → (w : World) (e f : ℕ) → Around w h e f → (o n : ℕ) → Paired w.objects o n → Step w (M.comp_properties p xs e o) (M.comp_properties q (rewritten_properties c (c.shift h) xs) f n)
-      properties_step h no_property su w e f r o n i = give_step c k p q (refs _ _ i)
-      properties_step h (more_property x xs) su w e f r o n i = then_step c p q (property_step h x su.0 w e f r o n i) (λ v g a b s. properties_step h xs su.1 v e f (around_later g r) o n (g.objects o n i))
+      properties_step : (h : Home) (xs : Properties) → SuitsProperties c h xs → (w : World) (e f : ℕ) → Around w h e f → (o n : ℕ) → Paired w.objects o n → n ≢ root → Step w (M.comp_properties p xs e o) (M.comp_properties q (rewritten_properties c (c.shift h) xs) f n)
+      properties_step h no_property su w e f r o n i apart = give_step c k p q (refs _ _ i)
+      properties_step h (more_property x xs) su w e f r o n i apart = then_step c p q (property_step h x su.0 w e f r o n i apart) (λ v g a b s. properties_step h xs su.1 v e f (around_later g r) o n (g.objects o n i) apart)
 
-      property_step : (h : Home) (x : Property) → SuitsProperty c h x → (w : World) (e f : ℕ) → Around w h e f → (o n : ℕ) → Paired w.objects o n → Step w (M.comp_property p x e o) (M.comp_property q (rewritten_property c (c.shift h) x) f n)
-      property_step h (Shorthand loc name) su w e f r o n i = then_step c p q (read_step c k p q name su r) (λ v g a b s. defines_step (name_units name) (g.objects o n i) s)
-      property_step h (KeyValue loc key x) su w e f r o n i = key_step h key su.0 w e f r (λ v g t. then_step c p q (named_step h x su.1.0 su.1.1 su.2 t v e f (around_later g r) (bare h x su.1.1 v e f (expr_step h x su.1.0 v e f (around_later g r))))
-          (λ u g' a b s. defines_step t (g'.objects o n (g.objects o n i)) s))
-      property_step h (Method loc key function) su w e f r o n i = key_step h key su.0 w e f r (λ v g t. then_step c p q (closure_step h (OfMethod function) t su.1 (around_later g r)) (λ u g' a b s. defines_step t (g'.objects o n (g.objects o n i)) s))
+      property_step : (h : Home) (x : Property) → SuitsProperty c h x → (w : World) (e f : ℕ) → Around w h e f → (o n : ℕ) → Paired w.objects o n → n ≢ root → Step w (M.comp_property p x e o) (M.comp_property q (rewritten_property c (c.shift h) x) f n)
+      property_step h (Shorthand loc name) su w e f r o n i apart = then_step c p q (read_step c k p q name su r) (λ v g a b s. defines_step (name_units name) (g.objects o n i) apart s)
+      property_step h (KeyValue loc key x) su w e f r o n i apart = key_step h key su.0 w e f r (λ v g t. then_step c p q (named_step h x su.1.0 su.1.1 su.2 t v e f (around_later g r) (bare h x su.1.1 v e f (expr_step h x su.1.0 v e f (around_later g r))))
+          (λ u g' a b s. defines_step t (g'.objects o n (g.objects o n i)) apart s))
+      property_step h (Method loc key function) su w e f r o n i apart = key_step h key su.0 w e f r (λ v g t. then_step c p q (closure_step h (OfMethod function) t su.1 (around_later g r)) (λ u g' a b s. defines_step t (g'.objects o n (g.objects o n i)) apart s))
 
       key_step : (h : Home) (x : PropertyKey) → SuitsKey c h x → (w : World) (e f : ℕ) → Around w h e f → {i j : List ℕ → Comp} → ((v : World) → Later w v → (t : List ℕ) → Step v (i t) (j t)) →
           Step w (M.comp_key p x e i) (M.comp_key q (rewritten_property_key c (c.shift h) x) f j)

@@ -1,12 +1,14 @@
 -- Heaps that grow in both runs.
-use Rattle.std.proofs.Common.{◌≡◌, ◌≢◌, ℕ, ◌<◌, true, List, [], ◌∷◌, ◌++◌, length, get_or, set, Option, Some, None, Ok, Err, refl, sym, ap, ◌∙◌, subst, ⊎_elim, arith, if◌then◌else◌}
+use Rattle.std.proofs.Common.{◌≡◌, ◌≢◌, ℕ, suc, ◌<◌, Bool, true, false, List, [], ◌∷◌, ◌++◌, length, get_or, set, Option, Some, None, Ok, Err, refl, sym, ap, ◌∙◌, subst, ⊎_elim, arith, codes, if◌then◌else◌}
 use Rattle.std.specs.Prelude.{◌==◌}
 use Rattle.std.proofs.lemmas.Bool.{cases_eq, eqb-true, false_from_ne_true}
-use Rattle.std.proofs.lemmas.List.{get_or-set_same, get_or-set_other, length-set, get_or_append_left, length_push}
+use Rattle.std.proofs.lemmas.List.{get_or-set_same, get_or-set_other, length-set, get_or_append_left, length_push, get_or_push}
+use Rattle.std.proofs.lemmas.Bool.Decides.{nat_tests}
 use Rattle.js_value.specs.declared.deed.Deed.{Deed}
 use Rattle.js_value.specs.State.{ObjectKind, Property, Binding, Environment, Heap, Store}
 use Rattle.js_value.specs.Objects.{next_object, new_object, define}
-use Rattle.js_value.specs.Environments.{no_environment, no_binding, environment_at, next_environment}
+use Rattle.js_value.specs.Environments.{no_environment, no_binding, environment_at, place_in, next_environment}
+use Rattle.js_value.specs.Realm.{global_environment}
 use Rattle.js_value.specs.declared.deed.Halt.{Halt}
 use Rattle.js_value.specs.Copying.{Copied}
 use Rattle.js_value.specs.Host.{Or, after_deed}
@@ -20,11 +22,12 @@ use Rattle.js_two_runs.proofs.TwoHeapsLater.{heaps-weaker, define-alike}
 use Rattle.js_two_runs.proofs.TwoOperationsLemmas.{new_objects-alike}
 use Rattle.js_two_runs.proofs.TwoCallsLemmas.{after-alike}
 use Rattle.js_suits.specs.Settings.{Home, Outside, World, Setting}
-use Rattle.js_lockstep.specs.Worlds.{Later, Around, AlikeNames, AlikeOuter, no_outer, outers, outer_home, AlikeEnvironments, AlikeFunctions, AlikeStores, Untouched}
+use Rattle.js_lockstep.specs.Worlds.{root, RootStays, GlobalStays, Later, Around, AlikeNames, AlikeOuter, no_outer, outers, outer_home, AlikeEnvironments, AlikeFunctions, AlikeStores, Untouched}
 use Rattle.js_lockstep.specs.Counters.{Keeps}
 use Rattle.js_lockstep.proofs.Rules.{later_same, later_again}
 use Rattle.js_lockstep.proofs.Later.{around_later, functions_later, environment_later, cache_later, requiring_later}
-use Rattle.js_lockstep.proofs.Alone.{Alone, alone_same, alone_again, alone_new, alone_but, but_written, alone_deed}
+use Rattle.js_lockstep.proofs.Root.{root_at, root_again, root_new, root_apart}
+use Rattle.js_lockstep.proofs.Alone.{Alone, alone_same, alone_again, alone_new, alone_set, alone_deed, not_root, root_deed}
 
 -- a function that is changed at one place
 abbrev pub at : {A : Type 0} → (ℕ → A) → ℕ → A → ℕ → A
@@ -37,13 +40,16 @@ pub at_other : {A : Type 0} (f : ℕ → A) (q : ℕ) (a : A) (x : ℕ) → x �
 at_other f q a x ne = ap (λ b. if b then a else f x) (false_from_ne_true (x == q) (λ e. ne (eqb-true x q e)))
 
 pub untouched_same : (w : World) (h : Heap) → Untouched w w h h
-untouched_same w h = record { objects = alone_same w.objects h; environments = λ f lt apart. (apart, lt, refl); own = λ e f n i o. refl; inner = λ e f n i o. i }
+untouched_same w h = record { objects = alone_same w.objects h; environments = λ f lt apart. (apart, lt, refl); own = λ e f n i o. refl; outers = λ z. z; inherited = λ low. (low, root_at h h refl); global = λ low. (low, λ n e. (e, refl)); inner = λ e f n i o. i }
 
 pub untouched_again : {u v w : World} {h k l : Heap} → Later u v → Later v w → Untouched u v h k → Untouched v w k l → Untouched u w h l
 untouched_again {u} {v} {w} {h} {k} {l} g g' x y = record {
   objects = alone_again u.objects v.objects w.objects h k l x.objects y.objects;
   environments = λ f lt apart. let a = x.environments f lt apart in let b = y.environments f a.1 a.0 in (b.0, b.1, b.2 ∙ a.2);
   own = λ e f n i o. y.own e f n (g.environments e f i) (g.own e f i ∙ o) ∙ x.own e f n i o;
+  outers = λ z. y.outers (x.outers z);
+  inherited = λ low. let a = x.inherited low in let b = y.inherited a.0 in (b.0, root_again h k l a.1 b.1);
+  global = λ low. let a = x.global low in let b = y.global a.0 in (b.0, λ n e. let i = a.1 n e in let j = b.1 n i.0 in (j.0, j.1 ∙ i.1));
   inner = λ e f n i o. let j = y.inner e f n i o in x.inner e f n j (sym (g'.own e f j) ∙ o);
 }
 
@@ -52,6 +58,12 @@ module _ (c : Setting) where
     pub heaps : AlikeHeaps w.objects (AlikeFunctions c w) h k
     pub environments : Corresponds (AlikeEnvironments c.name w) no_environment w.environments h.environments k.environments
     pub global : Around w (Outside 0) 0 0
+
+  pub root_bound : {pairs : Pairs} {F : ℕ → ℕ → ℕ → ℕ → Type 0} {h k : Heap} → AlikeHeaps pairs F h k → root < length k.objects
+  root_bound hs = hs.objects.right_bound root root (hs.built_in root (omega arith) (λ e. omega arith))
+
+  pub apart_from_root : {w : World} {h k : Heap} → Both w h k → next_object k ≢ root
+  apart_from_root x = not_root (root_bound x.heaps)
 
   pub record Grown (w : World) (h k a b : Heap) : Type 0 where
     pub v : World
@@ -78,8 +90,8 @@ module _ (c : Setting) where
   -- Objects
 
   abbrev pub objects_grown : (w : World) (h k : Heap) → Both w h k → (pairs : Pairs) (more : (o p : ℕ) → Paired w.objects o p → Paired pairs o p) (a b : Heap) →
-      a.environments ≡ h.environments → b.environments ≡ k.environments → AlikeHeaps pairs (AlikeFunctions c w) a b → Alone w.objects pairs k b → Grown w h k a b
-  objects_grown w h k x pairs more a b ea eb hs alone =
+      a.environments ≡ h.environments → b.environments ≡ k.environments → AlikeHeaps pairs (AlikeFunctions c w) a b → Alone w.objects pairs k b → (root < length k.objects → RootStays k b) → Grown w h k a b
+  objects_grown w h k x pairs more a b ea eb hs alone stays =
       let v = record w { objects = pairs } in
       let g : Later w v = record { objects = more; environments = λ e f i. i; home = λ e f i. refl; own = λ e f i. refl } in
       record {
@@ -96,6 +108,9 @@ module _ (c : Setting) where
           objects = alone;
           environments = λ f lt apart. (apart, subst (λ es. f < length es) (sym eb) lt, ap (λ es. get_or es f no_environment) eb);
           own = λ e f n i o. ap (λ es. get_or (get_or es f no_environment).bindings n no_binding) eb;
+          inherited = λ low. (root_bound hs, stays low);
+          global = λ low. (subst (λ es. global_environment < length es) (sym eb) low, λ n e. (subst (λ (es : List Environment). place_in (get_or es global_environment no_environment).bindings (codes "globalThis") ≡ Some n) (sym eb) e, ap (λ es. get_or (get_or es global_environment no_environment).bindings n no_binding) eb));
+          outers = λ z. subst (λ (es : List Environment). (f o : ℕ) → f < length es → (get_or es f no_environment).outer ≡ Some o → o < f) (sym eb) z;
           inner = λ e f n i o. i;
         };
       }
@@ -103,18 +118,18 @@ module _ (c : Setting) where
   abbrev pub new_grown : (w : World) (h k : Heap) (a b : ObjectKind) (p q : Option ℕ) → Both w h k → AlikeKinds w.objects (AlikeFunctions c w) a b → InBoth (Paired w.objects) p q → Made w h k (new_object a p h) (new_object b q k)
   new_grown w h k a b p q x r s = record {
     grown = objects_grown w h k x ((next_object h, next_object k) ∷ w.objects) (λ o n i. there i) _ _ refl refl
-        (new_objects-alike w.objects (AlikeFunctions c w) h k a b p q x.heaps r s) (alone_new w.objects (next_object h) _ k);
+        (new_objects-alike w.objects (AlikeFunctions c w) h k a b p q x.heaps r s) (alone_new w.objects (next_object h) _ k) (root_new k _);
     pair = here;
   }
 
-  abbrev pub define_grown : (w : World) (h k : Heap) (o n : ℕ) (a b : Property) → Both w h k → Paired w.objects o n → AlikeProperties w.objects (AlikeFunctions c w) a b → Grown w h k (define o a h) (define n b k)
-  define_grown w h k o n a b x i r = objects_grown w h k x w.objects (λ o n i. i) _ _ refl refl
-      (define-alike w.objects (AlikeFunctions c w) h k o n x.heaps i a b r) (alone_but w.objects o n k (define n b k) i (but_written n _ k))
+  abbrev pub define_grown : (w : World) (h k : Heap) (o n : ℕ) (a b : Property) → Both w h k → Paired w.objects o n → n ≢ root → AlikeProperties w.objects (AlikeFunctions c w) a b → Grown w h k (define o a h) (define n b k)
+  define_grown w h k o n a b x i apart r = objects_grown w h k x w.objects (λ o n i. i) _ _ refl refl
+      (define-alike w.objects (AlikeFunctions c w) h k o n x.heaps i a b r) (alone_set w.objects o n _ k i) (λ low. root_apart n _ k apart)
 
   abbrev pub deed_grown : (w : World) (h k : Heap) (d e : Deed) → Both w h k → RelatedDeeds (Paired w.objects) d e → ((a : Heap) → (after_deed d a).environments ≡ a.environments) → ((a : Heap) → (after_deed e a).environments ≡ a.environments) →
       ((o p : ℕ) → Paired w.objects o p → Paired (pairs_after (Ok d) w.objects h k) o p) → Grown w h k (after_deed d h) (after_deed e k)
   deed_grown w h k d e x r ed ee more = objects_grown w h k x (pairs_after (Ok d) w.objects h k) more _ _ (ed h) (ee k)
-      (after-alike w.objects (AlikeFunctions c w) h k x.heaps d e r) (alone_deed w.objects h k d e r)
+      (after-alike w.objects (AlikeFunctions c w) h k x.heaps d e r) (alone_deed w.objects h k d e r) (root_deed (Paired w.objects) k d e r)
 
   -- Environments
 
@@ -141,6 +156,18 @@ module _ (c : Setting) where
 
   pub none_some : {n : ℕ} → None ≡ Some n → ⊥
   none_some e = cc
+
+  -- what is around it is older
+  pub outer_below : {w : World} {h : Home} {e f : ℕ} {u v : Option ℕ} {o : ℕ} → AlikeOuter w h e f u v → v ≡ Some o → o < f
+  outer_below (no_outer z) t = absurd (none_some t)
+  outer_below {f = f} {o = o} (outers c d g l l' z r) t = subst (λ n. n < f) (let s : d ≡ o = cc in s) l'
+
+  pub less_of : (q n : ℕ) → (q ≡ n → ⊥) → q < suc n → q < n
+  less_of q n ne lt = by (q == n) refl
+    where
+      by : (b : Bool) → (q == n) ≡ b → q < n
+      by true e = absurd (ne (eqb-true q n e))
+      by false e = grind (arith, nat_tests, lt, e)
 
   -- one of these names, that is no file's own
   abbrev pub environment_grown : (w : World) (h k : Heap) (home : Home) (a b : Option ℕ) (xs ys : List Binding) → Both w h k →
@@ -176,6 +203,21 @@ module _ (c : Setting) where
               get_or_append_left k.environments (environment b ys ∷ []) no_environment q lt,
             );
             own = λ d q n i z. ap (λ (env : Environment). get_or env.bindings n no_binding) (get_or_append_left k.environments (environment b ys ∷ []) no_environment q (x.environments.right_bound d q i));
+            inherited = λ low. (low, root_at k (pushed_heap (environment b ys) k) refl);
+            global = λ low. (
+              omega (arith, length_push k.environments (environment b ys), low),
+              λ n e. (
+                ap (λ (env : Environment). place_in env.bindings (codes "globalThis")) (get_or_append_left k.environments (environment b ys ∷ []) no_environment global_environment low) ∙ e,
+                ap (λ (env : Environment). get_or env.bindings n no_binding) (get_or_append_left k.environments (environment b ys ∷ []) no_environment global_environment low),
+              ),
+            );
+            outers = λ z q o lt t. ⊎_elim
+                (λ (s : q ≡ next_environment k). subst (λ n. o < n) (sym s)
+                (outer_below out (sym (ap (λ (env : Environment). env.outer) (get_or_push k.environments (environment b ys) no_environment q (sym s))) ∙ t)))
+                (λ (s : q ≡ next_environment k → ⊥). let l = length_push k.environments (environment b ys) in
+                let below : q < next_environment k = less_of q (next_environment k) s (omega (arith, l, lt)) in
+                z q o below (sym (ap (λ (env : Environment). env.outer) (get_or_append_left k.environments (environment b ys ∷ []) no_environment q below)) ∙ t))
+                (cases_eq q (next_environment k));
             inner = λ d q n i z. ⊎_elim (λ y. absurd (none_some (sym (at_same w.own f None) ∙ ap (at w.own f None) (sym y.1) ∙ z))) (λ j. j) (newest i);
           };
         };
@@ -188,8 +230,9 @@ module _ (c : Setting) where
   with_environment e x h = record h { environments = set h.environments e x }
 
   abbrev pub environment_written : (w : World) (h k : Heap) (e f : ℕ) (x y : Environment) → Both w h k → Paired w.environments e f → AlikeEnvironments c.name w e f x y →
-      ((n : ℕ) → w.own f ≡ Some n → get_or y.bindings n no_binding ≡ get_or (environment_at k f).bindings n no_binding) → Grown w h k (with_environment e x h) (with_environment f y k)
-  environment_written w h k e f x y a i r own = record {
+      ((n : ℕ) → w.own f ≡ Some n → get_or y.bindings n no_binding ≡ get_or (environment_at k f).bindings n no_binding) → GlobalStays (environment_at k f).bindings y.bindings →
+      Grown w h k (with_environment e x h) (with_environment f y k)
+  environment_written w h k e f x y a i r own stays = record {
     v = w;
     later = later_same w;
     both = record {
@@ -209,6 +252,25 @@ module _ (c : Setting) where
           ap (λ (env : Environment). get_or env.bindings n no_binding) (ap (λ m. get_or (set k.environments f y) m no_environment) z ∙ get_or-set_same k.environments f y no_environment (a.environments.right_bound e f i))
           ∙ own n (sym (ap w.own z) ∙ o) ∙ ap (λ m. get_or (environment_at k m).bindings n no_binding) (sym z))
           (λ (z : q ≡ f → ⊥). ap (λ (env : Environment). get_or env.bindings n no_binding) (get_or-set_other k.environments f q y no_environment z))
+          (cases_eq q f);
+      inherited = λ low. (low, root_at k (with_environment f y k) refl);
+      global = λ low. (
+        subst (λ n. global_environment < n) (sym (length-set k.environments f y)) low,
+        ⊎_elim
+            (λ (z : global_environment ≡ f).
+            subst (λ (env : Environment). GlobalStays (environment_at k global_environment).bindings env.bindings)
+            (sym (ap (λ m. get_or (set k.environments f y) m no_environment) z ∙ get_or-set_same k.environments f y no_environment (a.environments.right_bound e f i)))
+            (subst (λ m. GlobalStays (environment_at k m).bindings y.bindings) (sym z) stays))
+            (λ (z : global_environment ≡ f → ⊥). λ n t. (
+              ap (λ (env : Environment). place_in env.bindings (codes "globalThis")) (get_or-set_other k.environments f global_environment y no_environment z) ∙ t,
+              ap (λ (env : Environment). get_or env.bindings n no_binding) (get_or-set_other k.environments f global_environment y no_environment z),
+            ))
+            (cases_eq global_environment f),
+      );
+      outers = λ z q o lt t. ⊎_elim
+          (λ (s : q ≡ f). subst (λ n. o < n) (sym s)
+          (outer_below r.outer (sym (ap (λ (env : Environment). env.outer) (ap (λ m. get_or (set k.environments f y) m no_environment) s ∙ get_or-set_same k.environments f y no_environment (a.environments.right_bound e f i))) ∙ t)))
+          (λ (s : q ≡ f → ⊥). z q o (subst (λ n. q < n) (length-set k.environments f y) lt) (sym (ap (λ (env : Environment). env.outer) (get_or-set_other k.environments f q y no_environment s)) ∙ t))
           (cases_eq q f);
       inner = λ d q n j o. j;
     };

@@ -28,10 +28,12 @@ use Rattle.cov_rewritten.specs.Counters.{quoted, with_name}
 use Rattle.js_suits.specs.Rewritten.{rewritten_code}
 use Rattle.js_suits.specs.Suits.{SuitsCode}
 use Rattle.js_suits.specs.Settings.{Home, World, Setting}
-use Rattle.js_lockstep.specs.Worlds.{Around, AlikeFunctions, normals}
+use Rattle.js_lockstep.specs.Worlds.{root, Around, AlikeFunctions, normals}
 use Rattle.js_lockstep.specs.Counters.{Keeps as KeepsHidden}
 use Rattle.js_lockstep.specs.Trees.{InStep, rets, runs, right}
-use Rattle.js_lockstep.proofs.Heaps.{Both, Grown, both_of, stores_grown}
+use Rattle.js_lockstep.proofs.Root.{root_again, root_new, root_apart}
+use Rattle.js_lockstep.proofs.Alone.{not_root}
+use Rattle.js_lockstep.proofs.Heaps.{Both, Grown, both_of, root_bound, stores_grown}
 use Rattle.js_lockstep.proofs.Scopes.{AlikeShapes, closed_made, shape_alike}
 
 -- an object stays as it is, and in bounds
@@ -145,6 +147,14 @@ module _ (c : Setting) (home : Home) where
             );
             environments = m.grown.untouched.environments;
             own = m.grown.untouched.own;
+            outers = m.grown.untouched.outers;
+            inherited = λ low.
+                let z = m.grown.untouched.inherited (omega (arith, more, low)) in (
+                  subst (λ n. root < n) (sym (length-set (closed g name d (holder_made b)).objects (next_object b) _)) (root_bound c m.grown.both.heaps),
+                  root_again b (closed g name d (holder_made b)) (held_made g name d b) (root_again b (holder_made b) (closed g name d (holder_made b)) (root_new b (bare []) low) z.1)
+                      (root_apart (next_object b) (record (object_at (closed g name d (holder_made b)) (next_object b)) { properties = with_property (assigned name (object (next_object (holder_made b)))) (object_at (closed g name d (holder_made b)) (next_object b)).properties }) (closed g name d (holder_made b)) (not_root low)),
+                );
+            global = m.grown.untouched.global;
             inner = m.grown.untouched.inner;
           };
         };

@@ -15,6 +15,7 @@ pub mod Operators
 pub mod Primitives
 pub mod Pushed
 pub mod Relinked
+pub mod Root
 pub mod Rules
 pub mod Scopes
 pub mod Statements

@@ -8,7 +8,7 @@ use Rattle.js_value.specs.declared.value.Primitive.TheVariants as primitive
 use Rattle.js_value.specs.declared.built_in.Place.TheVariants as place
 use Rattle.js_value.specs.declared.deed.Complaint.TheVariants as complaint
 use Rattle.js_value.specs.State.{Heap, Property}
-use Rattle.js_value.specs.Objects.{object_at, kind_of, is_array, get, keys, delete, has_property, stands_on, inherits, array_length}
+use Rattle.js_value.specs.Objects.{object_at, kind_of, is_array, get, keys, has_property, stands_on, inherits, array_length}
 use Rattle.js_value.specs.Key.{index_of}
 use Rattle.js_value.specs.Copying as Copying
 use Rattle.js_value.specs.Host as Host
@@ -30,7 +30,8 @@ use Rattle.js_two_runs.proofs.TwoHeapsDeleted.{delete-alike, delete_answer-alike
 use Rattle.js_suits.specs.Settings.{World, Setting}
 use Rattle.js_lockstep.specs.Worlds.{AlikeFunctions}
 use Rattle.js_lockstep.specs.Trees.{AlikeIterations, keys as keys_rel, elements, characters}
-use Rattle.js_lockstep.proofs.Alone.{alone_but, but_written, taken_but}
+use Rattle.js_lockstep.proofs.Root.{root_written, delete_same}
+use Rattle.js_lockstep.proofs.Alone.{alone_but, alone_set, taken_but}
 use Rattle.js_lockstep.proofs.Heaps.{AlikeOr, oks, errs, Changes, Both, grown_same, objects_grown}
 
 key_same : (R : ℕ → ℕ → Type 0) (v v' k k' : Value) → Related R v v' → Related R k k' → member_key v k ≡ member_key v' k'
@@ -90,7 +91,7 @@ module _ (c : Setting) (w : World) (h l : Heap) (x : Both c w h l) where
   written_changes : (o n : ℕ) (key : List ℕ) (v u : Value) → Paired w.objects o n → Related (Paired w.objects) v u → Changes c w h l (write o key v h) (write n key u l)
   written_changes o n key v u i r =
       let a = write-alike w.objects F h l o n key v u x.heaps i r in
-      record { grown = objects_grown c w h l x w.objects (λ o n i. i) _ _ (write_kept o key v h) (write_kept n key u l) a.heap (alone_but w.objects o n l _ i (taken_but n key (Copying.taken l n key u) l)); halts = a.halt }
+      record { grown = objects_grown c w h l x w.objects (λ o n i. i) _ _ (write_kept o key v h) (write_kept n key u l) a.heap (alone_but w.objects o n l _ i (taken_but n key (Copying.taken l n key u) l)) (λ low. (taken_but n key (Copying.taken l n key u) l).root_stays low); halts = a.halt }
     where
       write_kept : (o : ℕ) (key : List ℕ) (v : Value) (g : Heap) → (write o key v g).heap.environments ≡ g.environments
       write_kept o key v g = taken-kept o key (Copying.taken g o key v) g
@@ -108,7 +109,7 @@ module _ (c : Setting) (w : World) (h l : Heap) (x : Both c w h l) where
   delete_key_changes (Ok key) v v' (plain (primitive.Text units)) = record { grown = grown_same c x; halts = refl }
   delete_key_changes (Ok key) v v' (plain z) = record { grown = grown_same c x; halts = refl }
   delete_key_changes (Ok key) v v' (refs o n i) = record {
-    grown = objects_grown c w h l x w.objects (λ o n i. i) _ _ refl refl (delete-alike w.objects F h l o.index n.index x.heaps i key) (alone_but w.objects o.index n.index l (delete n.index key l) i (but_written n.index _ l));
+    grown = objects_grown c w h l x w.objects (λ o n i. i) _ _ refl refl (delete-alike w.objects F h l o.index n.index x.heaps i key) (alone_set w.objects o.index n.index _ l i) (root_written n.index _ l (delete_same (object_at l n.index) key));
     halts = ap undeleted (delete_answer-alike w.objects F h l o.index n.index x.heaps i key);
   }
 

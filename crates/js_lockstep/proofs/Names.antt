@@ -3,6 +3,7 @@ use Rattle.std.proofs.Common.{◌≡◌, ◌≢◌, ℕ, zero, suc, ◌<◌, Boo
 use Rattle.std.specs.Prelude.{option_map}
 use Rattle.std.specs.Str.{bytes_eq}
 use Rattle.std.proofs.lemmas.Bool.{false_from_ne_true}
+use Rattle.std.proofs.lemmas.List.{get_or-set_other}
 use Rattle.std.proofs.lemmas.Slice.Eq.{bytes_eq-Decides}
 use Rattle.js_value.specs.declared.value.Value.{Value}
 use Rattle.js_value.specs.State.{Binding}
@@ -46,6 +47,44 @@ named_there x (b ∷ bs) (suc i) e = go (by x b) refl (named_there x bs i)
     go : (t : Bool) → by x b ≡ t → (place_in bs x ≡ Some i → by x (get_or bs i no_binding) ≡ true) → by x (get_or bs i no_binding) ≡ true
     go true z further = absurd (let y : Some 0 ≡ Some (suc i) = sym (found_first x b bs z) ∙ e in cc)
     go false z further = further (past_first (place_in bs x) i (sym (found_later x b bs z) ∙ e))
+
+-- a name stays at its place where more names follow, and where another one's binding changes
+pub place_appended : (x : List ℕ) (bs cs : List Binding) (n : ℕ) → place_in bs x ≡ Some n → place_in (bs ++ cs) x ≡ Some n
+place_appended x [] cs n e = absurd cc
+place_appended x (b ∷ bs) cs n e = go (by x b) e (λ m. place_appended x bs cs m)
+  where
+    more : (o : Option ℕ) → ((m : ℕ) → o ≡ Some m → place_in (bs ++ cs) x ≡ Some m) → option_map (λ i. suc i) o ≡ Some n → option_map (λ i. suc i) (place_in (bs ++ cs) x) ≡ Some n
+    more None rest f = absurd (let z = f in cc)
+    more (Some m) rest f = ap (option_map (λ i. suc i)) (rest m refl) ∙ f
+
+    go : (t : Bool) → (if t then Some 0 else option_map (λ i. suc i) (place_in bs x)) ≡ Some n → ((m : ℕ) → place_in bs x ≡ Some m → place_in (bs ++ cs) x ≡ Some m) →
+        (if t then Some 0 else option_map (λ i. suc i) (place_in (bs ++ cs) x)) ≡ Some n
+    go true f rest = f
+    go false f rest = more (place_in bs x) rest f
+
+pub place_below : (x : List ℕ) (bs : List Binding) (n : ℕ) → place_in bs x ≡ Some n → n < length bs
+place_below x [] n e = absurd cc
+place_below x (b ∷ bs) n e = go (by x b) e (place_below x bs)
+  where
+    more : (o : Option ℕ) → ((m : ℕ) → o ≡ Some m → m < length bs) → option_map (λ i. suc i) o ≡ Some n → n < suc (length bs)
+    more None rest f = absurd (let z = f in cc)
+    more (Some m) rest f = let l = rest m refl in let z : suc m ≡ n = cc in omega (arith, l, z)
+
+    go : (t : Bool) → (if t then Some 0 else option_map (λ i. suc i) (place_in bs x)) ≡ Some n → ((m : ℕ) → place_in bs x ≡ Some m → m < length bs) → n < suc (length bs)
+    go true f rest = let z : 0 ≡ n = cc in omega (arith, z)
+    go false f rest = more (place_in bs x) rest f
+
+place_set : (x : List ℕ) (bs : List Binding) (i : ℕ) (b : Binding) → b.name ≡ (get_or bs i no_binding).name → place_in (set bs i b) x ≡ place_in bs x
+place_set x [] i b e = refl
+place_set x (a ∷ bs) zero b e = ap (λ (name : List ℕ). if bytes_eq name x then Some 0 else option_map (λ i. suc i) (place_in bs x)) e
+place_set x (a ∷ bs) (suc i) b e = ap (λ o. if by x a then Some 0 else option_map (λ i. suc i) o) (place_set x bs i b e)
+
+pub named_kept : (x : List ℕ) (bs : List Binding) (i : ℕ) (b : Binding) (n : ℕ) → b.name ≡ (get_or bs i no_binding).name → (get_or bs i no_binding).name ≢ x → place_in bs x ≡ Some n →
+    (place_in (set bs i b) x ≡ Some n) × (get_or (set bs i b) n no_binding ≡ get_or bs n no_binding)
+named_kept x bs i b n e ne at = (
+  place_set x bs i b e ∙ at,
+  get_or-set_other bs i n b no_binding (λ z. ne (ap (λ m. (get_or bs m no_binding).name) (sym z) ∙ (bytes_eq-Decides _ x).0 (named_there x bs n at))),
+)
 
 moved : (o r : Option ℕ) (a : Option ℕ) → ((i : ℕ) → place r (suc i) ≡ suc (place o i)) → option_map (λ i. suc i) (option_map (place o) a) ≡ option_map (place r) (option_map (λ i. suc i) a)
 moved o r None h = refl

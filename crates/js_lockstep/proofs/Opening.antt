@@ -10,7 +10,7 @@ use Rattle.js_value.specs.State.{Binding, Heap}
 use Rattle.js_value.specs.Environments.{no_environment}
 use Rattle.js_value.specs.Realm as realm
 use Rattle.js_value.specs.Realm.{number_of, built_in_count, opening}
-use Rattle.js_value.specs.Objects.{next_object, freeze}
+use Rattle.js_value.specs.Objects.{object_at, next_object, freeze}
 use Rattle.js_value.specs.Functions.{name_units}
 use Rattle.js_meaning.specs.Scopes.{shape_of}
 use Rattle.js_meaning.specs.Prelude as M
@@ -27,7 +27,8 @@ use Rattle.js_suits.specs.Programs.{SuitsFile, instrumented_prelude}
 use Rattle.js_lockstep.specs.Worlds.{held, global_this, AlikeBindings, AlikeNames, no_names, more_names, AlikeOuter, no_outer, AlikeEnvironments, AlikeFunctions, AlikeStores}
 use Rattle.js_lockstep.specs.Counters.{Keeps}
 use Rattle.js_lockstep.specs.Programs.{first_world}
-use Rattle.js_lockstep.proofs.Alone.{alone_but, but_written}
+use Rattle.js_lockstep.proofs.Root.{root_written}
+use Rattle.js_lockstep.proofs.Alone.{alone_set, freeze_same}
 use Rattle.js_lockstep.proofs.Heaps.{Both, Grown, grown_same, grown_again, objects_grown, define_grown, both_of}
 use Rattle.js_lockstep.proofs.Scopes.{closed_made, shape_alike}
 
@@ -113,7 +114,7 @@ module _ (c : Setting) (h : c.Hidden first_world [] [] opening) where
 module _ (c : Setting) where
   freeze_grown : (w : World) (h l : Heap) (o n : ℕ) → Both c w h l → Paired w.objects o n → Grown c w h l (freeze o h) (freeze n l)
   freeze_grown w h l o n x i = objects_grown c w h l x w.objects (λ o n i. i) _ _ refl refl
-      (freeze-alike w.objects (AlikeFunctions c w) h l o n x.heaps i) (alone_but w.objects o n l (freeze n l) i (but_written n _ l))
+      (freeze-alike w.objects (AlikeFunctions c w) h l o n x.heaps i) (alone_set w.objects o n _ l i) (root_written n _ l (freeze_same (object_at l n)))
 
   method_grown : (w : World) (h l : Heap) (name : List ℕ) (function : Function) → SuitsFunction c (Outside 0) function → Both c w h l →
       Grown c w h l (M.method_made name function h) (M.method_made name (rewritten_function c (c.shift (Outside 0)) function) l)
@@ -121,7 +122,7 @@ module _ (c : Setting) where
       let m = closed_made c (Outside 0) w h l (shape_of (OfMethod function)) (shape_of (OfMethod (rewritten_function c (c.shift (Outside 0)) function))) (shape_alike c (Outside 0) (OfMethod function) su) (name_units name) 0 0 x x.global in
       let g = freeze_grown m.grown.v _ _ (next_object h) (next_object l) m.grown.both m.pair in
       let g2 = grown_again c m.grown g in
-      grown_again c g2 (define_grown c g2.v _ _ (number_of place.ArrayPrototype) (number_of place.ArrayPrototype) _ _ g2.both (g2.both.heaps.built_in (number_of place.ArrayPrototype) (omega arith) (λ e. omega arith))
+      grown_again c g2 (define_grown c g2.v _ _ (number_of place.ArrayPrototype) (number_of place.ArrayPrototype) _ _ g2.both (g2.both.heaps.built_in (number_of place.ArrayPrototype) (omega arith) (λ e. omega arith)) (λ e. omega arith)
       (record { key = refl; value = refs _ _ (g.later.objects _ _ m.pair); enumerable = refl; writable = refl }))
 
   property_grown : (w : World) (h l : Heap) (x : Property) → SuitsProperty c (Outside 0) x → Both c w h l →

@@ -106,7 +106,7 @@ module _ (c : Setting) (k : Keeps c) (p q : Sources) where
 
   found_step : {w : World} {h j : Heap} {a b : Option Cell} → AlikeFound c w h j a b → Step w (M.value_in h a) (M.value_in j b)
   found_step not_found = complain_step NotDefined
-  found_step (found e f i r v a) = held_step v
+  found_step (found e f i r v a ne) = held_step v
 
   pub read_step : {w : World} {h : Home} {e f : ℕ} (x : List ℕ) → IsFree c.name h x → Around w h e f → Step w (M.read x e) (M.read x f)
   read_step {w = w} {h = h} {e = e} {f = f} x free r = looks_step c p q (λ s t a. found_step (lookup_alike c w s.heap t.heap (both_of c a) x h e f r free))
@@ -127,7 +127,7 @@ module _ (c : Setting) (k : Keeps c) (p q : Sources) where
   -- the first value of a name
   initializes_step : {w y : World} {h l : Heap} {a b : Option Cell} {v u : Value} → Related (Paired y.objects) v u → AlikeFound c w h l a b → Step y (M.initializes v a) (M.initializes u b)
   initializes_step r not_found = complain_step NotDefined
-  initializes_step r (found e f i s z a) = give_step r
+  initializes_step r (found e f i s z a ne) = give_step r
 
   pub initialize_step : {w : World} {h : Home} {e f : ℕ} {v u : Value} (x : List ℕ) → IsFree c.name h x → Around w h e f → Related (Paired w.objects) v u → Step w (M.initialize x e v) (M.initialize x f u)
   initialize_step {w} {h} {e} {f} {v} {u} x free r s = grown_step (init_name e x v) (init_name f x u)

@@ -1,5 +1,5 @@
 -- Functions and scopes are made in both runs.
-use Rattle.std.proofs.Common.{◌≡◌, ℕ, suc, Bool, true, false, List, [], ◌∷◌, ◌++◌, map, Some, None, refl, sym, ap, ◌∙◌, subst, arith, if◌then◌else◌}
+use Rattle.std.proofs.Common.{◌≡◌, ◌≢◌, codes, ℕ, suc, Bool, true, false, List, [], ◌∷◌, ◌++◌, map, Some, None, refl, sym, ap, ◌∙◌, subst, arith, if◌then◌else◌}
 use Rattle.std.specs.List.{AllZip}
 use Rattle.std.proofs.lemmas.List.{get_or_append_left}
 use Rattle.js_tree.specs.declared.operators.VariableKind.{VariableKind}
@@ -19,10 +19,10 @@ use Rattle.js_two_runs.specs.TwoHeaps.{plains, functions}
 use Rattle.js_suits.specs.Rewritten.{rewritten_code, rewritten_params}
 use Rattle.js_suits.specs.Suits.{SuitsCode}
 use Rattle.js_suits.specs.Settings.{Home, Outside, Within, World, Setting, IsFree}
-use Rattle.js_lockstep.specs.Worlds.{Encloses, Later, Around, held, AlikeBindings, AlikeNames, no_names, more_names, outers}
+use Rattle.js_lockstep.specs.Worlds.{root, Encloses, Later, Around, held, AlikeBindings, AlikeNames, no_names, more_names, outers}
 use Rattle.js_lockstep.proofs.Later.{around_later, names_later}
-use Rattle.js_lockstep.proofs.Names.{pushed, own_at}
-use Rattle.js_lockstep.proofs.Heaps.{Both, Grown, grown_same, grown_again, Made, Opened, new_grown, define_grown, later_new, environment_grown, environment_written}
+use Rattle.js_lockstep.proofs.Names.{place_appended, place_below, pushed, own_at}
+use Rattle.js_lockstep.proofs.Heaps.{apart_from_root, Both, Grown, grown_same, grown_again, Made, Opened, new_grown, define_grown, later_new, environment_grown, environment_written}
 use Rattle.js_lockstep.proofs.Stores.{assign_name_grown}
 use Rattle.js_lockstep.proofs.Pushed.{declared, environment, push_environment as pushed_heap}
 
@@ -47,14 +47,14 @@ module _ (c : Setting) (home : Home) where
       let m = new_grown c w h l (Written code e) (Written other f) (Some (number_of place.FunctionPrototype)) (Some (number_of place.FunctionPrototype)) x
       (functions code e other f (record { home = home; codes = z; environments = r })) (both _ _ (x.heaps.built_in (number_of place.FunctionPrototype) (omega arith) (λ e. omega arith)))
       in
-      let m2 = made_then c m (define_grown c m.grown.v _ _ (next_object h) (next_object l) _ _ m.grown.both m.pair (record { key = refl; value = plain _; enumerable = refl; writable = refl })) in
-      made_then c m2 (define_grown c m2.grown.v _ _ (next_object h) (next_object l) _ _ m2.grown.both m2.pair (record { key = refl; value = plain _; enumerable = refl; writable = refl }))
+      let m2 = made_then c m (define_grown c m.grown.v _ _ (next_object h) (next_object l) _ _ m.grown.both m.pair (apart_from_root c x) (record { key = refl; value = plain _; enumerable = refl; writable = refl })) in
+      made_then c m2 (define_grown c m2.grown.v _ _ (next_object h) (next_object l) _ _ m2.grown.both m2.pair (apart_from_root c x) (record { key = refl; value = plain _; enumerable = refl; writable = refl }))
 
-  constructor_grown : (w : World) (h l : Heap) (f g : ℕ) → Both c w h l → Paired w.objects f g → Grown c w h l (constructor_made f h) (constructor_made g l)
-  constructor_grown w h l f g x i =
+  constructor_grown : (w : World) (h l : Heap) (f g : ℕ) → Both c w h l → Paired w.objects f g → g ≢ root → Grown c w h l (constructor_made f h) (constructor_made g l)
+  constructor_grown w h l f g x i apart =
       let m = new_grown c w h l Plain Plain (Some (number_of place.ObjectPrototype)) (Some (number_of place.ObjectPrototype)) x plains (both _ _ (x.heaps.built_in (number_of place.ObjectPrototype) (omega arith) (λ e. omega arith))) in
-      let m2 = made_then c m (define_grown c m.grown.v _ _ (next_object h) (next_object l) _ _ m.grown.both m.pair (record { key = refl; value = refs _ _ (m.grown.later.objects f g i); enumerable = refl; writable = refl })) in
-      grown_again c m2.grown (define_grown c m2.grown.v _ _ f g _ _ m2.grown.both (m2.grown.later.objects f g i) (record { key = refl; value = refs _ _ m2.pair; enumerable = refl; writable = refl }))
+      let m2 = made_then c m (define_grown c m.grown.v _ _ (next_object h) (next_object l) _ _ m.grown.both m.pair (apart_from_root c x) (record { key = refl; value = refs _ _ (m.grown.later.objects f g i); enumerable = refl; writable = refl })) in
+      grown_again c m2.grown (define_grown c m2.grown.v _ _ f g _ _ m2.grown.both (m2.grown.later.objects f g i) apart (record { key = refl; value = refs _ _ m2.pair; enumerable = refl; writable = refl }))
 
   -- functions that are each other's, as they are known where they are made
   pub record AlikeShapes (f g : Shape) : Type 0 where
@@ -75,7 +75,7 @@ module _ (c : Setting) (home : Home) where
       m = function_grown w h l f.number g.number e d name f.length x s.codes r
 
       by_kind : (b : Bool) → Made c w h l (built b f.number f.length name e h) (built b g.number f.length name d l)
-      by_kind true = made_then c m (constructor_grown m.grown.v _ _ (next_object h) (next_object l) m.grown.both m.pair)
+      by_kind true = made_then c m (constructor_grown m.grown.v _ _ (next_object h) (next_object l) m.grown.both m.pair (apart_from_root c x))
       by_kind false = m
 
   pub shape_alike : (code : Code) → SuitsCode c home code → AlikeShapes (shape_of code) (shape_of (rewritten_code c (c.shift home) code))
@@ -149,6 +149,7 @@ module _ (c : Setting) (home : Home) where
       (record { outer = there.outer; names = pushed c.name w (w.home f) (w.own f) _ _ a b there.names (subst (λ z. AlikeBindings c.name w z a b) (sym r.home) s) })
       (λ n own. let low = own_at c.name w (w.home f) n _ _ (subst (λ o. AlikeNames c.name w (w.home f) o (environment_at h e).bindings (environment_at l f).bindings) own there.names) in
       get_or_append_left (environment_at l f).bindings (b ∷ []) no_binding n low.1)
+      (λ n at. (place_appended (codes "globalThis") (environment_at l f).bindings (b ∷ []) n at, get_or_append_left (environment_at l f).bindings (b ∷ []) no_binding n (place_below (codes "globalThis") (environment_at l f).bindings n at)))
 
   pub declares_grown : (w : World) (e f : ℕ) (xs ys : List Binding) → AlikeNames c.name w home None xs ys → (h l : Heap) → Both c w h l → Around w home e f → Grown c w h l (declare_all e xs h) (declare_all f ys l)
   declares_grown w e f [] [] no_names h l x r = grown_same c x

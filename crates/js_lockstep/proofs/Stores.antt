@@ -1,19 +1,22 @@
 -- Names are looked up and assigned to in both runs.
-use Rattle.std.proofs.Common.{◌≡◌, ℕ, zero, suc, ◌<◌, List, get_or, set, Option, Some, None, refl, sym, ap, ◌∙◌, subst, ⊎_elim, arith}
+use Rattle.std.proofs.Common.{◌≡◌, ◌≢◌, codes, [], ℕ, zero, suc, ◌<◌, List, get_or, set, Option, Some, None, refl, sym, ap, ◌∙◌, subst, ⊎_elim, arith}
 use Rattle.std.specs.Prelude.{option_map}
 use Rattle.std.proofs.lemmas.Slice.Eq.{bytes_eq-Decides}
 use Rattle.std.proofs.lemmas.List.{get_or-set_other}
 use Rattle.js_value.specs.declared.value.Value.{Value}
 use Rattle.js_value.specs.State.{Binding, Heap}
-use Rattle.js_value.specs.Environments.{no_binding, environment_at, Cell, place_of, resolved, lookup, value_of, assign_to, assign_answer, assigned, assign, init, assign_name, init_name}
+use Rattle.js_value.specs.Environments.{Assign, Done, Dead, Constant, no_binding, environment_at, Cell, place_of, resolved, lookup, value_of, assign_to, assign_answer, assigned, assign, init, assign_name, init_name}
 use Rattle.js_two_runs.specs.Pairs.{Paired}
 use Rattle.js_two_runs.specs.TwoRuns.{InBoth, neither, both, Related}
 use Rattle.js_suits.specs.Settings.{Home, Outside, Within, World, Setting, IsFree}
 use Rattle.js_lockstep.specs.Worlds.{Encloses, Around, held, AlikeOuter, no_outer, outers, outer_home, place}
 use Rattle.js_lockstep.proofs.Heaps.{Both, Grown, grown_same, environment_written}
-use Rattle.js_lockstep.proofs.Names.{named_there, same_place, at_place, changed_at, not_at_own, assigned_alike, answer_alike, contents_of}
+use Rattle.js_lockstep.proofs.Names.{named_there, named_kept, same_place, at_place, changed_at, not_at_own, assigned_alike, answer_alike, contents_of}
 
 module _ (c : Setting) where
+  no_name : [] ≡ codes "globalThis" → ⊥
+  no_name e = cc
+
   -- Looking a name up
 
   pub data AlikeFound (w : World) (h j : Heap) : Option Cell → Option Cell → Type 0 where
@@ -21,6 +24,7 @@ module _ (c : Setting) where
     found : (e f i : ℕ) → Paired w.environments e f →
         InBoth (Related (Paired w.objects)) (value_of h (record { environment = e; place = i })) (value_of j (record { environment = f; place = place (w.own f) i })) →
         assign_answer h (record { environment = e; place = i }) ≡ assign_answer j (record { environment = f; place = place (w.own f) i }) →
+        (get_or (environment_at j f).bindings (place (w.own f) i) no_binding).name ≢ codes "globalThis" →
         AlikeFound w h j (Some (record { environment = e; place = i })) (Some (record { environment = f; place = place (w.own f) i }))
 
   free_around : (g h : Home) (x : List ℕ) → Encloses g h → IsFree c.name h x → IsFree c.name g x
@@ -40,11 +44,12 @@ module _ (c : Setting) where
         ⊎_elim
         (λ b.
         let named : (get_or (environment_at s e).bindings i no_binding).name ≡ x = (bytes_eq-Decides _ x).0 (named_there x (environment_at s e).bindings i at) in
-        found e f i r.pair (contents_of c.name w (w.home f) _ _ b (λ z. free.not_global (sym named ∙ z))) (answer_alike c.name w (w.home f) _ _ b))
+        found e f i r.pair (contents_of c.name w (w.home f) _ _ b (λ z. free.not_global (sym named ∙ z))) (answer_alike c.name w (w.home f) _ _ b) (λ z. free.not_global (sym named ∙ b.names ∙ z)))
         (λ z. found e f i r.pair
         (subst (λ b. InBoth (Related (Paired w.objects)) b.value (get_or (environment_at t f).bindings (place (w.own f) i) no_binding).value) (sym z.0)
         (subst (λ b. InBoth (Related (Paired w.objects)) no_binding.value b.value) (sym z.1) neither))
-        (ap assign_to z.0 ∙ sym (ap assign_to z.1)))
+        (ap assign_to z.0 ∙ sym (ap assign_to z.1))
+        (λ y. no_name (sym (ap (λ (b : Binding). b.name) z.1) ∙ y)))
         (at_place c.name w (w.home f) (w.own f) _ _ there i)
 
     chosen : (e f : ℕ) (m n : Option ℕ) (u v : Option Cell) → n ≡ option_map (place (w.own f)) m →
@@ -81,33 +86,40 @@ module _ (c : Setting) where
 
   -- An assignment to a name's cell
 
+  pub assigned_name : (a : Assign) (v : Value) (b : Binding) → (assigned a v b).name ≡ b.name
+  assigned_name Done v b = refl
+  assigned_name Dead v b = refl
+  assigned_name Constant v b = refl
+
   pub own_kept : (w : World) (h : Home) (xs : List Binding) (o : Option ℕ) (n i : ℕ) (b : Binding) → o ≡ Some n → get_or (set xs (place o i) b) n no_binding ≡ get_or xs n no_binding
   own_kept w h xs o n i b z =
       subst (λ o. get_or (set xs (place o i) b) n no_binding ≡ get_or xs n no_binding) (sym z)
       (get_or-set_other xs (place (Some n) i) n b no_binding (λ y. not_at_own c.name w h n i (sym y)))
 
-  abbrev pub assign_grown : (w : World) (h l : Heap) (e f i : ℕ) (v u : Value) → Paired w.environments e f → Related (Paired w.objects) v u → Both c w h l →
+  abbrev pub assign_grown : (w : World) (h l : Heap) (e f i : ℕ) (v u : Value) → Paired w.environments e f → Related (Paired w.objects) v u → (get_or (environment_at l f).bindings (place (w.own f) i) no_binding).name ≢ codes "globalThis" → Both c w h l →
       Grown c w h l (assign (record { environment = e; place = i }) v h) (assign (record { environment = f; place = place (w.own f) i }) u l)
-  assign_grown w h l e f i v u p r a =
+  assign_grown w h l e f i v u p r ne a =
       let there = a.environments.related e f p in
       environment_written c w h l e f _ _ a p
       (record { outer = there.outer; names = changed_at c.name w (w.home f) (λ b. assigned (assign_to b) v b) (λ b. assigned (assign_to b) u b) (assigned_alike c.name w (w.home f) v u r) (w.own f) _ _ there.names i })
       (λ n own. own_kept w (w.home f) (environment_at l f).bindings (w.own f) n i _ own)
+      (λ n at. named_kept (codes "globalThis") (environment_at l f).bindings (place (w.own f) i) _ n (assigned_name (assign_answer l (record { environment = f; place = place (w.own f) i })) u _) ne at)
 
-  abbrev pub init_grown : (w : World) (h l : Heap) (e f i : ℕ) (v u : Value) → Paired w.environments e f → Related (Paired w.objects) v u → Both c w h l →
+  abbrev pub init_grown : (w : World) (h l : Heap) (e f i : ℕ) (v u : Value) → Paired w.environments e f → Related (Paired w.objects) v u → (get_or (environment_at l f).bindings (place (w.own f) i) no_binding).name ≢ codes "globalThis" → Both c w h l →
       Grown c w h l (init (record { environment = e; place = i }) v h) (init (record { environment = f; place = place (w.own f) i }) u l)
-  init_grown w h l e f i v u p r a =
+  init_grown w h l e f i v u p r ne a =
       let there = a.environments.related e f p in
       environment_written c w h l e f _ _ a p
       (record { outer = there.outer; names = changed_at c.name w (w.home f) (λ b. record b { value = Some v }) (λ b. record b { value = Some u }) (λ x y b. record { names = b.names; other = b.other; contents = held (both v u r); constants = b.constants }) (w.own f) _ _ there.names i })
       (λ n own. own_kept w (w.home f) (environment_at l f).bindings (w.own f) n i _ own)
+      (λ n at. named_kept (codes "globalThis") (environment_at l f).bindings (place (w.own f) i) _ n refl ne at)
 
   -- Names are assigned to where they are found
 
   assign_found : (w : World) (h l : Heap) (a b : Option Cell) (v u : Value) → Both c w h l → Related (Paired w.objects) v u → AlikeFound w h l a b →
       Grown c w h l (elim a [ None ↦ h | Some cell ↦ assign cell v h ]) (elim b [ None ↦ l | Some cell ↦ assign cell u l ])
   assign_found w h l _ _ v u x r not_found = grown_same c x
-  assign_found w h l _ _ v u x r (found e f i s y a) = assign_grown w h l e f i v u s r x
+  assign_found w h l _ _ v u x r (found e f i s y a ne) = assign_grown w h l e f i v u s r ne x
 
   pub assign_name_grown : (w : World) (h l : Heap) (home : Home) (e f : ℕ) (x : List ℕ) (v u : Value) → Both c w h l → Around w home e f → IsFree c.name home x → Related (Paired w.objects) v u →
       Grown c w h l (assign_name e x v h) (assign_name f x u l)
@@ -116,7 +128,7 @@ module _ (c : Setting) where
   init_found : (w : World) (h l : Heap) (a b : Option Cell) (v u : Value) → Both c w h l → Related (Paired w.objects) v u → AlikeFound w h l a b →
       Grown c w h l (elim a [ None ↦ h | Some cell ↦ init cell v h ]) (elim b [ None ↦ l | Some cell ↦ init cell u l ])
   init_found w h l _ _ v u x r not_found = grown_same c x
-  init_found w h l _ _ v u x r (found e f i s y a) = init_grown w h l e f i v u s r x
+  init_found w h l _ _ v u x r (found e f i s y a ne) = init_grown w h l e f i v u s r ne x
 
   pub init_name_grown : (w : World) (h l : Heap) (home : Home) (e f : ℕ) (x : List ℕ) (v u : Value) → Both c w h l → Around w home e f → IsFree c.name home x → Related (Paired w.objects) v u →
       Grown c w h l (init_name e x v h) (init_name f x u l)
@@ -124,4 +136,4 @@ module _ (c : Setting) where
 
   pub answers_same : (w : World) (h l : Heap) {a b : Option Cell} → AlikeFound w h l a b → option_map (assign_answer h) a ≡ option_map (assign_answer l) b
   answers_same w h l not_found = refl
-  answers_same w h l (found e f i s y a) = ap (λ z. Some z) a
+  answers_same w h l (found e f i s y a ne) = ap (λ z. Some z) a

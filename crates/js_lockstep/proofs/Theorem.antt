@@ -51,12 +51,13 @@ use Rattle.js_lockstep.proofs.Instrumented.{instrumented_at}
 use Rattle.js_lockstep.proofs.Opening.{opening_stores, opening_grown}
 use Rattle.js_lockstep.proofs.Rules.{later_again, handle_step, then_step, looks_step, acts, Insides, in_step}
 use Rattle.js_lockstep.proofs.Later.{around_later}
-use Rattle.js_lockstep.proofs.Heaps.{Both, Grown, grown_again, both_of, stores_grown, new_grown, objects_grown, define_grown}
+use Rattle.js_lockstep.proofs.Heaps.{apart_from_root, Both, Grown, grown_again, both_of, stores_grown, new_grown, objects_grown, define_grown}
 use Rattle.js_lockstep.proofs.Primitives.{give_step, done_step, if_step, grown_step, within_step, complain_step, after_turn_step, throw_step}
 use Rattle.js_lockstep.specs.Programs.{Starts, SameRuns, RunsInStep}
 use Rattle.js_lockstep.proofs.Rules as rules
 use Rattle.js_lockstep.proofs.Scopes.{made_then, scope_opened_in}
-use Rattle.js_lockstep.proofs.Alone.{alone_heap, alone_but, but_written}
+use Rattle.js_lockstep.proofs.Root.{root_written}
+use Rattle.js_lockstep.proofs.Alone.{alone_heap, alone_set, freeze_same, root_heap}
 use Rattle.js_lockstep.proofs.Bodies.{same_constructs, list_body, body_grown, after_call_step, call_code_step, construct_code_step, all_stmts}
 use Rattle.js_lockstep.proofs.Statements.{stmt_all}
 use Rattle.js_lockstep.proofs.Statements as statements
@@ -82,7 +83,7 @@ module _ (c : Setting) (k : Keeps c) (fresh : Fresh c) (p q : Sources) (counting
     require : Paired grown.v.objects (next_object a + 2) (next_object b + 2)
 
   freeze_grown : (w : World) (a b : Heap) (o n : ℕ) → Both c w a b → Paired w.objects o n → Grown c w a b (freeze o a) (freeze n b)
-  freeze_grown w a b o n x i = objects_grown c w a b x w.objects (λ o n i. i) _ _ refl refl (freeze-alike w.objects (AlikeFunctions c w) a b o n x.heaps i) (alone_but w.objects o n b (freeze n b) i (but_written n _ b))
+  freeze_grown w a b o n x i = objects_grown c w a b x w.objects (λ o n i. i) _ _ refl refl (freeze-alike w.objects (AlikeFunctions c w) a b o n x.heaps i) (alone_set w.objects o n _ b i) (root_written n _ b (freeze_same (Objects.object_at b n)))
 
   parent_pair : (w : World) {a b : Heap} → Both c w a b → InBoth (Paired w.objects) (Some (number_of place.ObjectPrototype)) (Some (number_of place.ObjectPrototype))
   parent_pair w x = both _ _ (x.heaps.built_in (number_of place.ObjectPrototype) (omega arith) (λ e. omega arith))
@@ -105,10 +106,10 @@ module _ (c : Setting) (k : Keeps c) (fresh : Fresh c) (p q : Sources) (counting
       let m2 = new_grown c m1.grown.v (plain_made a) (plain_made b) state.Plain state.Plain _ _ m1.grown.both plains (parent_pair m1.grown.v m1.grown.both) in
       let one : Paired m2.grown.v.objects (next_object a + 1) (next_object b + 1) = subst2 (λ o n. Paired m2.grown.v.objects o n) (second_is a) (second_is b) m2.pair in
       let none : Paired m2.grown.v.objects (next_object a) (next_object b) = m2.grown.later.objects _ _ m1.pair in
-      let g3 = define_grown c m2.grown.v (plain_made (plain_made a)) (plain_made (plain_made b)) (next_object a + 1) (next_object b + 1) (Objects.assigned (codes "exports") (object (next_object a))) (Objects.assigned (codes "exports") (object (next_object b))) m2.grown.both one (record { key = refl; value = refs _ _ none; enumerable = refl; writable = refl }) in
+      let g3 = define_grown c m2.grown.v (plain_made (plain_made a)) (plain_made (plain_made b)) (next_object a + 1) (next_object b + 1) (Objects.assigned (codes "exports") (object (next_object a))) (Objects.assigned (codes "exports") (object (next_object b))) m2.grown.both one (λ e. omega (arith, e)) (record { key = refl; value = refs _ _ none; enumerable = refl; writable = refl }) in
       let m4 = new_grown c g3.v (exports_made a) (exports_made b) (BuiltIn FUNCTIONS) (BuiltIn FUNCTIONS) (Some (number_of place.FunctionPrototype)) (Some (number_of place.FunctionPrototype)) g3.both (built_ins FUNCTIONS) (both _ _ (g3.both.heaps.built_in (number_of place.FunctionPrototype) (omega arith) (λ e. omega arith))) in
-      let m5 = made_then c m4 (define_grown c m4.grown.v _ _ (next_object (exports_made a)) (next_object (exports_made b)) _ _ m4.grown.both m4.pair (record { key = refl; value = plain _; enumerable = refl; writable = refl })) in
-      let m6 = made_then c m5 (define_grown c m5.grown.v _ _ (next_object (exports_made a)) (next_object (exports_made b)) _ _ m5.grown.both m5.pair (record { key = refl; value = plain _; enumerable = refl; writable = refl })) in
+      let m5 = made_then c m4 (define_grown c m4.grown.v _ _ (next_object (exports_made a)) (next_object (exports_made b)) _ _ m4.grown.both m4.pair (apart_from_root c g3.both) (record { key = refl; value = plain _; enumerable = refl; writable = refl })) in
+      let m6 = made_then c m5 (define_grown c m5.grown.v _ _ (next_object (exports_made a)) (next_object (exports_made b)) _ _ m5.grown.both m5.pair (apart_from_root c g3.both) (record { key = refl; value = plain _; enumerable = refl; writable = refl })) in
       let two : Paired m6.grown.v.objects (next_object a + 2) (next_object b + 2) = subst2 (λ o n. Paired m6.grown.v.objects o n) (third_is a) (third_is b) m6.pair in
       let g7 = freeze_grown m6.grown.v _ _ (next_object a + 2) (next_object b + 2) m6.grown.both two in
       record {
@@ -312,7 +313,8 @@ module _ (c : Setting) (k : Keeps c) (fresh : Fresh c) (p q : Sources) (counting
         (λ s t x. objects_grown c w s.heap t.heap (both_of c x) (native_pairs n (is_some maker) this vs w.objects s.heap t.heap) (λ o l h. call-keeps w.objects n (is_some maker) this vs s.heap t.heap o l h) _ _
         (call-kept n (is_some maker) this vs s.heap) (call-kept n (is_some maker) that us t.heap)
         (call-heaps w.objects (AlikeFunctions c w) s.heap t.heap x.heaps n (is_some maker) this that vs us r rs)
-        (alone_heap w.objects s.heap t.heap _ _ (done-alike w.objects (AlikeFunctions c w) s.heap t.heap x.heaps (built_in n) (is_some maker) this that vs us r rs)))
+        (alone_heap w.objects s.heap t.heap _ _ (done-alike w.objects (AlikeFunctions c w) s.heap t.heap x.heaps (built_in n) (is_some maker) this that vs us r rs))
+        (root_heap (Paired w.objects) t.heap _ _ (done-alike w.objects (AlikeFunctions c w) s.heap t.heap x.heaps (built_in n) (is_some maker) this that vs us r rs)))
         (λ s t x.
         let g : Later w (record w { objects = native_pairs n (is_some maker) this vs w.objects s.heap t.heap }) = record { objects = λ o l h. call-keeps w.objects n (is_some maker) this vs s.heap t.heap o l h; environments = λ e f i. i; home = λ e f i. refl; own = λ e f i. refl } in
         native_step _ callee other (g.objects _ _ z) (next _ g) (call-answers w.objects (AlikeFunctions c w) s.heap t.heap x.heaps n (is_some maker) this that vs us r rs)))

@@ -1,12 +1,13 @@
 -- The store of a counted program's run, on the left, and that of the program with its counters, on the right: which objects and which
 -- environments stand for each other, and what the right one holds beside.
-use Rattle.std.specs.Prelude.{◌≡◌, ℕ, zero, suc, ◌<◌, List, [], ◌∷◌, length, codes, slice_index_or, Option, Some, None}
+use Rattle.std.specs.Prelude.{◌≡◌, ℕ, zero, suc, ◌<◌, true, List, [], ◌∷◌, length, codes, slice_index_or, Option, Some, None}
 use Rattle.std.specs.List.{AllZip}
 use Rattle.js_value.specs.declared.value.Value.{Value}
-use Rattle.js_value.specs.State.{Binding, Environment, Cached, Requiring, Heap, Store}
+use Rattle.js_value.specs.declared.built_in.Place.TheVariants.{ObjectPrototype}
+use Rattle.js_value.specs.State.{Plain, ObjectRecord, Binding, Environment, Cached, Requiring, Heap, Store}
 use Rattle.js_value.specs.Objects.{object_at}
-use Rattle.js_value.specs.Environments.{no_environment, no_binding, environment_at, Cell}
-use Rattle.js_value.specs.Realm.{global_environment}
+use Rattle.js_value.specs.Environments.{no_environment, no_binding, environment_at, place_in, Cell}
+use Rattle.js_value.specs.Realm.{number_of, global_environment}
 use Rattle.js_value.specs.declared.value.Kind.{Kind}
 use Rattle.js_meaning.specs.declared.outcome.Completion.{Completion}
 use Rattle.js_meaning.specs.declared.outcome.Completion.TheVariants.{Normal, Break, Continue, Return, Throw}
@@ -110,7 +111,30 @@ pub record AlikeStores (c : Setting) (w : World) (s t : Store) : Type 0 where
   pub output : s.output ≡ t.output
   pub hidden : c.Hidden w s.log s.started t.heap
 
--- what is in no pair, and each file's own name, is left as it is
+-- each environment is younger than the one around it
+abbrev pub OutersOlder : Heap → Type 0
+OutersOlder h = (f o : ℕ) → f < length h.environments → (environment_at h f).outer ≡ Some o → o < f
+
+-- what all objects inherit from keeps its prototype and its properties, once it is frozen
+abbrev pub root : ℕ
+root = number_of ObjectPrototype
+
+pub record SameProperties (x y : ObjectRecord) : Type 0 where
+  pub kind : y.kind ≡ x.kind
+  pub prototype : y.prototype ≡ x.prototype
+  pub frozen : y.frozen ≡ x.frozen
+  pub properties : y.properties ≡ x.properties
+
+abbrev pub RootStays : Heap → Heap → Type 0
+RootStays h k = (object_at h root).kind ≡ Plain → (object_at h root).frozen ≡ true → SameProperties (object_at h root) (object_at k root)
+
+-- the name of the global object stays where it is, and what it holds
+abbrev pub GlobalStays : List Binding → List Binding → Type 0
+GlobalStays xs ys = (n : ℕ) → place_in xs (codes "globalThis") ≡ Some n →
+    (place_in ys (codes "globalThis") ≡ Some n) × (slice_index_or ys n no_binding ≡ slice_index_or xs n no_binding)
+
+-- what is in no pair, and each file's own name, is left as it is; what is made is younger than what is around it; and what all objects
+-- inherit from and the name of the global object stay
 pub record Untouched (w v : World) (h k : Heap) : Type 0 where
   pub objects : (q : ℕ) → q < length h.objects → ((o : ℕ) → Paired w.objects o q → ⊥) →
       ((o : ℕ) → Paired v.objects o q → ⊥) × (q < length k.objects) × (object_at k q ≡ object_at h q)
@@ -118,6 +142,10 @@ pub record Untouched (w v : World) (h k : Heap) : Type 0 where
       ((e : ℕ) → Paired v.environments e f → ⊥) × (f < length k.environments) × (environment_at k f ≡ environment_at h f)
   pub own : (e f n : ℕ) → Paired w.environments e f → w.own f ≡ Some n →
       slice_index_or (environment_at k f).bindings n no_binding ≡ slice_index_or (environment_at h f).bindings n no_binding
+  pub outers : OutersOlder h → OutersOlder k
+  pub inherited : root < length h.objects → (root < length k.objects) × RootStays h k
+  pub global : global_environment < length h.environments →
+      (global_environment < length k.environments) × GlobalStays (environment_at h global_environment).bindings (environment_at k global_environment).bindings
   pub inner : (e f n : ℕ) → Paired v.environments e f → v.own f ≡ Some n → Paired w.environments e f
 
 -- Runs
