@@ -14,6 +14,7 @@ use Rattle.js_value.specs.Running.{on_heap}
 use Rattle.js_meaning.specs.declared.outcome.Completion.{Completion}
 use Rattle.js_meaning.specs.declared.outcome.Completion.TheVariants.{Normal, Return}
 use Rattle.js_meaning.specs.Effects.{Entry, Call, Comp, ret, handle}
+use Rattle.js_meaning.specs.Steps.{Stopped, eval}
 use Rattle.js_meaning.specs.Program.{Sources, function_at}
 use Rattle.std.specs.Prelude.{slice_index_or}
 use Rattle.js_meaning.specs.Meaning.{Member, with_value, read, call, get_member_of, number, number_value, updates, comp_expr}
@@ -21,7 +22,8 @@ use Rattle.js_meaning.specs.Files.{inside, this_bound, comp_coded, call_code, af
 use Rattle.js_meaning.specs.Points.{Point, Comes, Asks, point, onward, TakesOne}
 use Rattle.js_counter.specs.Represents.{Placed, Holds, Within, child, value_at}
 use Rattle.js_counter.specs.Represents as R
-use Rattle.js_counter.specs.Steady.{actual, gives_actual, call_of, Spells, index_key, Ready, called, CallsSteadily, CountsTwo, CountsThree, HoldsTicked}
+use Rattle.js_counter.specs.Steady.{actual, gives_actual, call_of, counter_two, counter_three, Spells, index_key, Ready, called, CallsSteadily, CountsTwo, CountsThree, HoldsTicked}
+use Rattle.js_meaning.proofs.Handle.{handle_again}
 use Rattle.js_meaning.proofs.PointLemmas.{point_handle, reads_name, asks_call, takes_one}
 use Rattle.js_counter.proofs.Heaps.{pushed, env_of, at_top, below_top, scope_is, looked_out}
 use Rattle.js_counter.proofs.Data.{child_on}
@@ -103,6 +105,29 @@ module _ (p : Sources) (env : ℕ) (name : List ℕ) (v : Value) (s : Store) (r 
 
 pub calls_steadily : CallsSteadily
 calls_steadily p env name v s r = calls p env name v s r
+
+-- what begins with the call stops where no step is left, whatever follows
+module _ (p : Sources) (env : ℕ) (name : List ℕ) (v : Value) (s : Store) (r : Ready p s.heap env name v) where
+  abbrev Stops : Comp → Type 0
+  Stops c = (next : Completion → Comp) → eval (inside p) 0 (handle c next) s ≡ Stopped s
+
+  stops_then : (c : Comp) (k : Completion → Comp) → Stops c → Stops (handle c k)
+  stops_then c k stops next = ap (λ d. eval (inside p) 0 d s) (handle_again c k next) ∙ stops (λ o. handle (k o) next)
+
+  pub stops_two : (member spelled : List ℕ) → Stops (comp_expr p (counter_two name member spelled) env)
+  stops_two member spelled =
+      let call = comp_expr p (call_of name) env in
+      let first = with_value (λ base. get_member_of base (text (name_units member))) in
+      let second = with_value (λ base. handle (number (literal_number spelled)) (with_value (λ key. updates false Increment env (Member base key)))) in
+      stops_then (handle call first) second (stops_then call first (calls p env name v s r).none)
+
+  pub stops_three : (member spelled spelled_path : List ℕ) → Stops (comp_expr p (counter_three name member spelled spelled_path) env)
+  stops_three member spelled spelled_path =
+      let call = comp_expr p (call_of name) env in
+      let first = with_value (λ base. get_member_of base (text (name_units member))) in
+      let second = with_value (λ base. handle (number (literal_number spelled)) (with_value (get_member_of base))) in
+      let third = with_value (λ base. handle (number (literal_number spelled_path)) (with_value (λ key. updates false Increment env (Member base key)))) in
+      stops_then (handle (handle call first) second) third (stops_then (handle call first) second (stops_then call first (calls p env name v s r).none))
 
 -- the environment of the call leaves the data as it was
 holds_called : (h : Heap) (inner : ℕ) (x : Placed) → Holds h x → Holds (called inner h) x

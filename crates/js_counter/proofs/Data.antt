@@ -260,7 +260,7 @@ mutual
   json_items_ticked (item x xs) zero keys = ap (λ y. items y (json_items xs)) (json_of_ticked x keys)
   json_items_ticked (item x xs) (suc i) keys = ap (items (json_of x)) (json_items_ticked xs i keys)
 
-  json_members_ticked : (ms : PlacedMembers) (key : List ℕ) (keys : List (List ℕ)) → json_members (ticked_members ms key keys) ≡ json_ticked_members (json_members ms) key keys
+  pub json_members_ticked : (ms : PlacedMembers) (key : List ℕ) (keys : List (List ℕ)) → json_members (ticked_members ms key keys) ≡ json_ticked_members (json_members ms) key keys
   json_members_ticked empty key keys = refl
   json_members_ticked (member q x ms) key keys = elim (bytes_eq q key) as (λ b. json_members (if b then member q (ticked x keys) ms else member q x (ticked_members ms key keys))
       ≡ (if b then members q (json_ticked (json_of x) keys) (json_members ms) else members q (json_of x) (json_ticked_members (json_members ms) key keys))) [

@@ -99,7 +99,7 @@ runs_one p c s v t x = (
   (λ n j. exec_eval (inside p) (suc n) (handle c j) s ∙ ap ran_by (x.one n j) ∙ sym (exec_eval (inside p) n (j _) t)),
 )
 
-kind_apart : (y : Placed) (c e : ℕ) → (record_of y).kind ≡ Written c e → ⊥
+pub kind_apart : (y : Placed) (c e : ℕ) → (record_of y).kind ≡ Written c e → ⊥
 kind_apart null c e q = cc
 kind_apart (truth b) c e q = cc
 kind_apart (negative neg) c e q = cc

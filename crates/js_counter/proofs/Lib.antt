@@ -1,20 +1,20 @@
-mod Heaps
-mod Data
-mod Ticks
-mod Points
-mod Calls
-mod Makes
-mod Locals
-mod FirstCall
-mod Cover
-mod Closed
-mod Puts
-mod Opens
-mod Laws
-mod Starts
-mod Hoists
-mod Fresh
-mod Began
-mod Worked
-mod Decimals
-mod Places
+pub mod Heaps
+pub mod Data
+pub mod Ticks
+pub mod Points
+pub mod Calls
+pub mod Makes
+pub mod Locals
+pub mod FirstCall
+pub mod Cover
+pub mod Closed
+pub mod Puts
+pub mod Opens
+pub mod Laws
+pub mod Starts
+pub mod Hoists
+pub mod Fresh
+pub mod Began
+pub mod Worked
+pub mod Decimals
+pub mod Places
