@@ -1,0 +1,8 @@
+pub mod Alone
+pub mod Counts
+pub mod Data
+pub mod Keeps
+pub mod Numbers
+pub mod Own
+pub mod Preamble
+pub mod Together

@@ -1,0 +1,5 @@
+use Rattle.js_counted.proofs.Together.{counters_run}
+use Rattle.js_counted.proofs.running.Goals as goal
+
+pub returns : goal.returns
+returns c = counters_run
