@@ -2,7 +2,7 @@
 use Rattle.std.specs.Prelude.{◌≡◌, ℕ, List}
 use Rattle.serde_json.specs.Data.{Data}
 use Rattle.js_tree.specs.Mark.{Mark}
-use Rattle.js_tree.specs.Linked.{Unmarked, Marked, Numbers, link_file}
+use Rattle.js_tree.specs.Linked.{Unmarked, Marked, Numbers, Chain, kept, after_code, link_expr, link_stmts, link_file}
 use Rattle.js_tree.specs.Plain.{Expr, Stmts, File}
 use Rattle.cov_rewritten.specs.Counters.{counter}
 use Rattle.cov_rewritten.specs.Preamble.{preamble}
@@ -21,3 +21,10 @@ LinksRewritten = (count : Mark → Expr) (code : ℕ → ℕ) (n path hash : Lis
     ((m : Mark) → count (record m { file = file }) ≡ counter n m) → from.counts ≡ from_zero.counts → (tree : File) (k : Numbers) →
     link_file Unmarked (rewritten_file count code (preamble n path hash zero) (link_file (Marked file) tree from).tree) k
     ≡ link_file Unmarked (rewritten n path hash zero tree) k
+
+-- what stands before a file's statements has two functions, and the code of a mark has none: it is as it is
+abbrev pub LinksPreamble : Type 0
+LinksPreamble = (n path hash : List ℕ) (zero : Data) (k : Numbers) → (link_stmts Unmarked (preamble n path hash zero) k).next ≡ after_code (after_code k)
+
+abbrev pub LinksCounters : Type 0
+LinksCounters = (n : List ℕ) (m : Mark) (chain : Chain) (k : Numbers) → link_expr Unmarked chain (counter n m) k ≡ kept (counter n m) k
