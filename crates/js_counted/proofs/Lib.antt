@@ -1,4 +1,5 @@
 pub mod Alone
+pub mod Beginning
 pub mod Counts
 pub mod Data
 pub mod Keeps

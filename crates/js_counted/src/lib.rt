@@ -3,7 +3,7 @@
 
 ghost use Rattle.js_counted.specs.Numbers.{EntriesCounted};
 ghost use Rattle.js_counted.specs.Preambles.{PreambleLinked, PreambleCodes};
-ghost use Rattle.js_counted.specs.Parts.{CountersKeep, CountersBegin, CountersCount, CountersRun};
+ghost use Rattle.js_counted.specs.Parts.{CountersKeep, CountersBegin, CountersCount, CountersRun, FilesBegin};
 
 /// Each number of a file's data grows by the entries of its mark.
 pub fn entries()
@@ -31,4 +31,9 @@ pub fn running()
 pub fn preambles()
     ensures linked { PreambleLinked }
     ensures codes { PreambleCodes }
+{}
+
+/// A counted file begins with its directives, its function, whose name is none of its own, and a call of it.
+pub fn beginning_of_files()
+    ensures { FilesBegin }
 {}

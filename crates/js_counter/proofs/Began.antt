@@ -1,6 +1,7 @@
 -- The start of a file that has counters, whole.
-use Rattle.std.proofs.Common.{◌≡◌, ℕ, suc, List, Some, sym, ap, ◌∙◌}
+use Rattle.std.proofs.Common.{Option, ◌≡◌, ℕ, suc, List, Some, sym, ap, ◌∙◌, arith}
 use Rattle.js_tree.specs.declared.words.Comment.{Comment}
+use Rattle.js_tree.specs.declared.place.Loc.{Loc}
 use Rattle.js_tree.specs.declared.words.Spelled.{Spelled}
 use Rattle.js_tree.specs.Plain.{Stmts, MakeFile}
 use Rattle.js_value.specs.declared.value.Value.{Value}
@@ -19,12 +20,13 @@ use Rattle.js_meaning.specs.Points.{TakesOne}
 use Rattle.js_counter.specs.Steady.{call_of}
 use Rattle.js_counter.specs.Preamble.{Uncovered}
 use Rattle.js_counter.specs.Starts.{opening_of, file_env, file_store, Started, StartsFirst, StartsOther, StartsAgain}
+use Rattle.js_counter.proofs.Closed.{grown_length}
 use Rattle.js_counter.proofs.Puts.{bare_grown, covered_grown}
 use Rattle.js_counter.proofs.Opens.{opens_first, opens_other, opens_again}
 use Rattle.js_counter.proofs.Starts.{starts_file}
 use Rattle.js_counter.proofs.Fresh.{begins_fresh}
 
-started_by : (p : Sources) (source : Source) (file : ℕ) (ds : List Spelled) (name : List ℕ) (path hash gcv : Spelled) (made : Literal) (number next : ℕ) (rest : Stmts) (comments : List Comment) (s t : Store) (v : Value) →
+started_by : (p : Sources) (source : Source) (file : ℕ) (ds : List (Option Loc × Spelled)) (name : List ℕ) (path hash gcv : Spelled) (made : Literal) (number next : ℕ) (rest : Stmts) (comments : List Comment) (s t : Store) (v : Value) →
     source.tree ≡ MakeFile (opening_of ds name path hash gcv made number next rest) comments →
     TakesOne p (comp_expr p (call_of name) (file_env (begin source file s))) (file_store source file (opening_of ds name path hash gcv made number next rest) s) v t →
     Started p source file (opening_of ds name path hash gcv made number next rest) rest s t
@@ -53,7 +55,8 @@ starts_first p source file ds name path hash gcv made number next rest comments 
     let t = file_store source file (opening_of ds name path hash gcv made number next rest) s in
     let o = opens_first p t (file_env (begin source file s)) name path hash gcv made g x.0 (uncovered_grown s.heap t.heap g gcv.units x.1 u)
     (bare_grown s.heap t.heap (Some (number_of ObjectPrototype)) path.units x.1 bare) other in
-    (o.0, record { opened = o.1; started = started_by p source file ds name path hash gcv made number next rest comments s o.1.store _ tree o.1.takes })
+    let longer = grown_length s.heap t.heap x.1 in let far = o.1 in
+    (o.0, omega (arith, longer, far), record { opened = o.2; started = started_by p source file ds name path hash gcv made number next rest comments s o.2.store _ tree o.2.takes })
 
 pub starts_other : StartsOther
 starts_other p source file ds name path hash gcv made number next rest comments s g c ms tree f covered bare none =
@@ -68,4 +71,4 @@ starts_again p source file ds name path hash gcv made number next rest comments 
     let x = begins_fresh p source file ds name path hash gcv made number next rest s g f in
     let t = file_store source file (opening_of ds name path hash gcv made number next rest) s in
     let o = opens_again p t (file_env (begin source file s)) name path hash gcv made g c ms d fs x.0 (covered_grown s.heap t.heap g gcv.units c ms x.1 covered) at has in
-    record { opened = o; started = started_by p source file ds name path hash gcv made number next rest comments s o.store _ tree o.takes }
+    (record { opened = o.0; started = started_by p source file ds name path hash gcv made number next rest comments s (o.0).store _ tree (o.0).takes }, o.1)

@@ -1,9 +1,10 @@
 -- A file begins: its function is made, and the names of the file.
-use Rattle.std.proofs.Common.{◌⊎◌, inl, inr, ◌≡◌, ℕ, zero, suc, ◌+◌, ◌<◌, ◌||◌, Bool, true, false, List, [], ◌∷◌, ◌++◌, map, length, codes, Some, None, refl, sym, ap, subst, ◌∙◌, arith, if◌then◌else◌}
+use Rattle.std.proofs.Common.{Option, ◌⊎◌, inl, inr, ◌≡◌, ℕ, zero, suc, ◌+◌, ◌<◌, ◌||◌, Bool, true, false, List, [], ◌∷◌, ◌++◌, map, length, codes, Some, None, refl, sym, ap, subst, ◌∙◌, arith, if◌then◌else◌}
 use Rattle.std.specs.Prelude.{slice_index_or, slice_set, option_map}
 use Rattle.std.specs.Str.{bytes_eq}
 use Rattle.std.proofs.lemmas.List.{length_push, length-set}
 use Rattle.std.proofs.lemmas.Slice.Eq.{bytes_eq-Decides}
+use Rattle.js_tree.specs.declared.place.Loc.{Loc}
 use Rattle.js_tree.specs.declared.words.Spelled.{Spelled}
 use Rattle.js_tree.specs.Plain.{Stmts, more_stmt, FunctionDeclaration, MakeFunction, MakeFunctionBody, no_param}
 use Rattle.js_value.specs.declared.value.Value.{Value}
@@ -38,8 +39,8 @@ use Rattle.js_counter.proofs.Hoists.{Kept, kept_closed, hoisted_kept, assign_sho
 
 -- a variable without a value
 pub record Stands (name : List ℕ) (bs : List Binding) : Type 0 where
-  i : ℕ
-  at : place_in bs name ≡ Some i
+  pub i : ℕ
+  pub at : place_in bs name ≡ Some i
   value : (slice_index_or bs i no_binding).value ≡ Some undefined
   constant : (slice_index_or bs i no_binding).constant ≡ false
 
@@ -123,7 +124,7 @@ begun_grown h =
     let gk : Grown h k = define_grows (next_object c) (fixed (codes "name") (text (codes "require"))) h f gf lc in
     with_grows (next_object h + 2) (record (object_at k (next_object h + 2)) { frozen = true }) h k gk (omega arith)
 
-functions_after : (ds : List Spelled) (xs : Stmts) → function_stmts (after_directives ds xs) ≡ function_stmts xs
+functions_after : (ds : List (Option Loc × Spelled)) (xs : Stmts) → function_stmts (after_directives ds xs) ≡ function_stmts xs
 functions_after [] xs = refl
 functions_after (d ∷ ds) xs = functions_after ds xs
 
@@ -131,33 +132,33 @@ answer_done : (b : Binding) (v : Value) → b.value ≡ Some v → b.constant �
 answer_done b v e f =
     ap (λ o. elim o [ None ↦ Dead | Some w ↦ if b.constant then Constant else Done ]) e ∙ ap (λ t. if t then Constant else Done) f
 
-module _ (p : Sources) (source : Source) (file : ℕ) (ds : List Spelled) (name : List ℕ) (path hash gcv : Spelled) (made : Literal) (number next : ℕ) (rest : Stmts) (s : Store) (g : ℕ)
+module _ (p : Sources) (source : Source) (file : ℕ) (ds : List (Option Loc × Spelled)) (name : List ℕ) (path hash gcv : Spelled) (made : Literal) (number next : ℕ) (rest : Stmts) (s : Store) (g : ℕ)
     (f : FileFresh p (opening_of ds name path hash gcv made number next rest) name path hash gcv made number next rest s g) where
-  abbrev xs : Stmts
+  abbrev pub xs : Stmts
   xs = opening_of ds name path hash gcv made number next rest
 
-  abbrev exports : ℕ
+  abbrev pub exports : ℕ
   exports = next_object s.heap
 
-  abbrev hb : Heap
+  abbrev pub hb : Heap
   hb = (begin source file s).heap
 
-  abbrev E : ℕ
+  abbrev pub E : ℕ
   E = next_environment hb
 
-  abbrev shape : Shape
+  abbrev pub shape : Shape
   shape = shape_of (first_code number name path hash gcv (expr_of made) next)
 
-  abbrev itself : Hoisted
+  abbrev pub itself : Hoisted
   itself = record { name = name; shape = shape }
 
-  abbrev bindings : List Binding
+  abbrev pub bindings : List Binding
   bindings = file_bindings xs exports
 
-  abbrev base : Heap
+  abbrev pub base : Heap
   base = pushed (env_of global_environment bindings) hb
 
-  abbrev H : Heap
+  abbrev pub H : Heap
   H = (file_store source file xs s).heap
 
   functions_are : function_stmts xs ≡ itself ∷ function_stmts rest
@@ -176,7 +177,7 @@ module _ (p : Sources) (source : Source) (file : ℕ) (ds : List Spelled) (name 
       three = variable_of (object (next_object s.heap)) (codes "exports") ∷ variable_of (object (next_object s.heap + 2)) (codes "require") ∷ variable_of (object (next_object s.heap + 1)) (codes "module") ∷ []
 
   -- the name stands among those of the file
-  named : Stands name bindings
+  pub named : Stands name bindings
   named =
       let inner = found_once name (body_scope xs).lexical (body_scope xs).variables file_names is_variable f.own_name in
       after_one name _ _ (turned name (codes "exports") (first_no f.own_name))
@@ -216,7 +217,7 @@ module _ (p : Sources) (source : Source) (file : ℕ) (ds : List Spelled) (name 
           (more_stmt (does (call_of name)) rest)))
           ∙ ap (λ b. b || stands_in name (names_of (function_stmts rest))) same_name)
 
-  abbrev cell : Cell
+  abbrev pub cell : Cell
   cell = record { environment = E; place = named.i }
 
   abbrev global_cell : Cell
@@ -225,13 +226,13 @@ module _ (p : Sources) (source : Source) (file : ℕ) (ds : List Spelled) (name 
   abbrev top_is : environment_at base E ≡ env_of global_environment bindings
   top_is = at_top (env_of global_environment bindings) hb
 
-  abbrev k0 : Heap
+  abbrev pub k0 : Heap
   k0 = closed shape (name_units name) E base
 
-  abbrev function : ℕ
+  abbrev pub function : ℕ
   function = next_object base
 
-  abbrev k1 : Heap
+  abbrev pub k1 : Heap
   k1 = assign cell (object function) k0
 
   base_named : place_of (environment_at base E) name ≡ Some named.i
@@ -258,13 +259,13 @@ module _ (p : Sources) (source : Source) (file : ℕ) (ds : List Spelled) (name 
   may0 : assign_answer k0 cell ≡ Done
   may0 = answer_done (binding_at k0 cell) undefined held0 constant0
 
-  low0 : E < next_environment k0
+  pub low0 : E < next_environment k0
   low0 = let e = kept0.envs in let l = length_push hb.environments (env_of global_environment bindings) in omega (arith, e, l)
 
   named_function : assign_name E name (object function) k0 ≡ k1
   named_function = ap (λ o. elim o [ None ↦ k0 | Some c ↦ assign c (object function) k0 ]) (looked_up k0 E name (environment_at k0 E) named.i refl named0)
 
-  heap_last : H ≡ hoisted (function_stmts rest) E k1
+  pub heap_last : H ≡ hoisted (function_stmts rest) E k1
   heap_last = heap_is ∙ ap (λ h. hoisted (function_stmts rest) E h) named_function
 
   -- after the function has its name

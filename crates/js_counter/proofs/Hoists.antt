@@ -98,7 +98,7 @@ module _ (h : Heap) (cell : Cell) (v : Value) (name : List ℕ) (has : place_of 
 
 -- Functions, one after another
 
-closed_grows : (f : Shape) (name : List ℕ) (env : ℕ) (h : Heap) → Grown h (closed f name env h)
+pub closed_grows : (f : Shape) (name : List ℕ) (env : ℕ) (h : Heap) → Grown h (closed f name env h)
 closed_grows f name env h =
     let made = function_made f.number env name f.length h in
     let g = function_grows f.number env name f.length h in

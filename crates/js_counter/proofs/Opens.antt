@@ -1,6 +1,8 @@
 -- The first call of a file's function, and what it leaves.
-use Rattle.std.proofs.Common.{◌≡◌, ◌≢◌, ℕ, suc, ◌+◌, ◌<◌, not, true, List, [], ◌∷◌, ◌++◌, length, Some, None, refl, sym, ap, subst, ◌∙◌, arith}
-use Rattle.std.specs.Prelude.{slice_index_or, slice_set}
+use Rattle.std.proofs.Common.{◌≡◌, ◌≢◌, ℕ, suc, ◌+◌, ◌<◌, ◌≤◌, Bool, not, true, false, List, [], ◌∷◌, ◌++◌, length, Some, None, refl, sym, ap, subst, ◌∙◌, ⊎_elim, arith}
+use Rattle.std.specs.Prelude.{slice_index_or, slice_set, IsTrue}
+use Rattle.std.specs.Str.{bytes_eq}
+use Rattle.std.proofs.lemmas.Bool.{cases_eq}
 use Rattle.std.proofs.lemmas.List.{length-set, length_push}
 use Rattle.std.proofs.Math.Seq.{get_or-append_seam}
 use Rattle.js_tree.specs.declared.words.Spelled.{Spelled}
@@ -23,7 +25,7 @@ use Rattle.js_meaning.specs.Files.{call_code}
 use Rattle.js_meaning.specs.Points.{Comes, Asks, point, onward}
 use Rattle.js_value.specs.Lookups.{Grown, Shows}
 use Rattle.js_value.proofs.LookupLemmas.{grown_more, resolved_kept}
-use Rattle.js_counter.specs.Represents.{Json, Placed, PlacedMembers, empty, plain, unit_text, json_of, json_members, value_at, properties_of, plain_object, On, Stands, Holds, Off, DistinctMembers, member_at}
+use Rattle.js_counter.specs.Represents.{Json, Placed, PlacedMembers, empty, plain, unit_text, json_of, json_members, value_at, properties_of, plain_object, On, Stands, Holds, Off, DistinctMembers, OnMembers, member_at}
 use Rattle.js_counter.specs.Literals.{Literal, expr_of, data_of, Makes}
 use Rattle.js_counter.specs.Literals as L
 use Rattle.js_counter.specs.Steady.{gives_actual, call_of, Ready}
@@ -37,8 +39,8 @@ use Rattle.js_counter.proofs.Makes.{From, Below, literals_make}
 use Rattle.js_counter.proofs.Locals.{e, heap_of, now}
 use Rattle.js_counter.proofs.FirstCall.{first_runs, top_same}
 use Rattle.js_counter.proofs.Cover.{get_none, put_new, put_old, covers_there, covers_made, gets_data, test, test_absent, test_there, replaces, leaves}
-use Rattle.js_counter.proofs.Closed.{assigned_env, assigned_other, closed_grows, closed_kind, assigned_value, assigned_shows}
-use Rattle.js_counter.proofs.Puts.{key_same, on_put, distinct_put, put_there, json_of_put, json_same, properties_new, properties_old, member_none, property_new, bare_grown, covered_grown}
+use Rattle.js_counter.proofs.Closed.{assigned_env, assigned_other, closed_grows, closed_kind, assigned_value, assigned_shows, grown_length}
+use Rattle.js_counter.proofs.Puts.{key_same, on_put, distinct_put, put_there, put_elsewhere, json_of_put, json_same, properties_new, properties_old, member_none, property_new, bare_grown, covered_grown}
 
 bare_literal : (key : List ℕ) (x : Literal) (env : ℕ) → named_function (expr_of x) key env ≡ None
 bare_literal key L.null env = refl
@@ -101,7 +103,10 @@ module _ (p : Sources) (s : Store) (env : ℕ) (name : List ℕ) (path hash gcv 
       (covered : Covered (heap_of s f.outer X3 (locals P H G D (object g) (object c) u)) g gcv.units c after)
       (there : member_at after path.units ≡ Some file) (tells : json_of file ≡ json)
       (paths : json_members after ≡ json_put path.units json (json_members ms))
-      (others : (o : ℕ) → o < length s.heap.objects → o ≢ g → o ≢ c → (o < length X3) × (slice_index_or X3 o no_object ≡ object_at s.heap o)) where
+      (others : (o : ℕ) → o < length s.heap.objects → o ≢ g → o ≢ c → (o < length X3) × (slice_index_or X3 o no_object ≡ object_at s.heap o))
+      (longer : length s.heap.objects ≤ length X3)
+      (kept : (key : List ℕ) (y : Placed) → bytes_eq path.units key ≡ false → member_at ms key ≡ Some y → member_at after key ≡ Some y)
+      (made_of : (test : ℕ → Bool) → ((o : ℕ) → length s.heap.objects ≤ o → IsTrue (test o)) → OnMembers (λ o r. IsTrue (test o)) ms → OnMembers (λ o r. IsTrue (test o)) after) where
     abbrev v : Value
     v = value_at file
 
@@ -170,6 +175,7 @@ module _ (p : Sources) (s : Store) (env : ℕ) (name : List ℕ) (path hash gcv 
     }
 
     opened : Opened p s env name path gcv.units g c ms json
+    unfolding ready
     opened = record {
       store = record s { heap = hl };
       file = file;
@@ -189,8 +195,33 @@ module _ (p : Sources) (s : Store) (env : ℕ) (name : List ℕ) (path hash gcv 
       own = assigned_env hc f.seen.cell (object (length X3)) (object f.function) low_c may_c held_c
           ∙ ap (λ (x : Environment). record { outer = x.outer; bindings = slice_set x.bindings f.seen.cell.place (record (slice_index_or x.bindings f.seen.cell.place no_binding) { value = Some (object (length X3)) }) })
           (below_top (env_of f.outer bs) s.heap f.seen.cell.environment f.seen.low);
-      one_more = let l = length_push s.heap.environments (env_of f.outer bs) in length-set hc.environments f.seen.cell.environment _ ∙ l;
+      one_more = more;
+      same_cell = refl;
+      new_function = longer;
+      new_inner = omega arith;
+      older = older;
+      kept = kept;
+      made = made_of;
     }
+      where
+        more : next_environment hl ≡ next_environment s.heap + 1
+        more = let l = length_push s.heap.environments (env_of f.outer bs) in length-set hc.environments f.seen.cell.environment _ ∙ l
+
+        inj : {X : Type 0} {a b : X} → Some a ≡ Some b → a ≡ b
+        inj e = cc
+
+        less : (a b : ℕ) → (a ≡ b → ⊥) → a < suc b → a < b
+        less a b ne l = grind (arith, ne, l)
+
+        older : (x o : ℕ) → x < next_environment hl → (environment_at hl x).outer ≡ Some o → o < x
+        older x o l w = ⊎_elim
+            (λ (q : x ≡ next_environment s.heap).
+            let y : f.outer ≡ o = inj (sym (ap (λ (z : Environment). z.outer) top) ∙ ap (λ m. (environment_at hl m).outer) (sym q) ∙ w) in
+            let low = f.low in omega (arith, q, y, low))
+            (λ (q : x ≡ next_environment s.heap → ⊥).
+            let below : x < next_environment s.heap = less x (next_environment s.heap) q (let m = more in omega (arith, l, m)) in
+            f.older x o below (sym (shows x below).outer ∙ w))
+            (cases_eq x (next_environment s.heap))
 
   -- where the coverage is there, the data are put into it
   module _ (X2 : List ObjectRecord) (c : ℕ) (ms : PlacedMembers) where
@@ -231,11 +262,15 @@ module _ (p : Sources) (s : Store) (env : ℕ) (name : List ℕ) (path hash gcv 
 
       opens_put : (covers : point (comp_expr p covering E) (now_with X1 (locals P H G D (object g) u u)) ≡ Comes (Normal (object c)) (now_with X2 (locals P H G D (object g) u u))) →
           point (comp_stmt p replacing [] E) (now_with X2 bs6) ≡ Comes (Normal undefined) (now_with X3 bs6) →
-          ((o : ℕ) → o < length s.heap.objects → o ≢ g → o ≢ c → (o < length X2) × (slice_index_or X2 o no_object ≡ object_at s.heap o)) →
+          ((o : ℕ) → o < length s.heap.objects → o ≢ g → o ≢ c → (o < length X2) × (slice_index_or X2 o no_object ≡ object_at s.heap o)) → length s.heap.objects ≤ length X2 →
           Opened p s env name path gcv.units g c ms (data_of made)
-      opens_put covers replaced others = opened c X2 X3 ms (put_in path.units m.placed ms) m.placed (data_of made) covers replaced put_covered
+      opens_put covers replaced others longer = opened c X2 X3 ms (put_in path.units m.placed ms) m.placed (data_of made) covers replaced put_covered
           (put_there path.units m.placed ms) m.data_is (json_of_put path.units m.placed ms ∙ ap (λ j. json_put path.units j (json_members ms)) m.data_is)
           (λ o l n q. let x = others o l n q in let y = put_others o x.0 q in (y.0, y.1 ∙ x.1))
+          (let z = put.size in omega (arith, z, longer))
+          (λ key y no there. put_elsewhere path.units m.placed ms key no ∙ there)
+          (λ test new old. on_put (λ o r. IsTrue (test o)) path.units m.placed ms old
+          (on_both (From (next_object s.heap)) (From (next_object s.heap)) (λ o r. IsTrue (test o)) (λ o r a b. new o a) m.placed m.fresh m.fresh))
 
   -- what was there before the data were made is there still
   grown1 : (bs : List Binding) → Grown s.heap (heap_of s f.outer X1 bs)
@@ -246,6 +281,9 @@ module _ (p : Sources) (s : Store) (env : ℕ) (name : List ℕ) (path hash gcv 
 
   others1 : (c : ℕ) (o : ℕ) → o < length s.heap.objects → o ≢ g → o ≢ c → (o < length X1) × (slice_index_or X1 o no_object ≡ object_at s.heap o)
   others1 c o l n q = m.grows.objects o l
+
+  longer1 : length s.heap.objects ≤ length X1
+  longer1 = grown_length s.heap m.heap m.grows.objects
 
   module _ (c : ℕ) (ms : PlacedMembers) (before : Covered s.heap g gcv.units c ms) where
     abbrev bs7 : List Binding
@@ -279,7 +317,7 @@ module _ (p : Sources) (s : Store) (env : ℕ) (name : List ℕ) (path hash gcv 
         (test_absent p s f.outer path hash gcv D g X1 c (ap or_undefined nothing))
         (put_new h7 c path.units D (Some (number_of ObjectPrototype)) [] (properties_of ms) here (member_none ms path.units none)
         (bare_grown s.heap h7 (Some (number_of ObjectPrototype)) path.units (grown1 bs7) bare)))
-        (others1 c)
+        (others1 c) longer1
 
     module _ (d : ℕ) (fs : PlacedMembers) (at : member_at ms path.units ≡ Some (plain d fs)) where
       holds_file : Holds h7 (plain d fs)
@@ -306,15 +344,19 @@ module _ (p : Sources) (s : Store) (env : ℕ) (name : List ℕ) (path hash gcv 
           (replaces p s f.outer path hash gcv D g X1 c (heap_of s f.outer (slice_set X1 c (plain_object (with_value_of path.units D (properties_of ms)))) bs7)
           (test_differs differs)
           (put_old h7 c path.units D (Some (number_of ObjectPrototype)) [] (properties_of ms) here w.0 w.1 w.3))
-          (others1 c)
+          (others1 c) longer1
 
       -- the hash is the same
-      again : member_at fs (name_units hash_) ≡ Some (unit_text hash.units) → Opened p s env name path gcv.units g c ms (json_of (plain d fs))
-      again has = opened c X1 X1 ms ms (plain d fs) (json_of (plain d fs)) covers1
-          (leaves p s f.outer path hash gcv D g X1 c
-          (test_there p s f.outer path hash gcv D g X1 c d H gets_file (ap or_undefined (get_member_at h7 d fs (name_units hash_) (unit_text hash.units) holds_file has))
-          ∙ ap (λ b. Comes (Normal (value.Primitive (primitive.Boolean (not b)))) (now_with X1 bs7)) (key_same hash.units)))
-          covered1 at refl (json_same path.units (plain d fs) ms at) (others1 c)
+      again : member_at fs (name_units hash_) ≡ Some (unit_text hash.units) → (x : Opened p s env name path gcv.units g c ms (json_of (plain d fs))) × (x.file ≡ plain d fs)
+      unfolding opened
+      again has = (
+        opened c X1 X1 ms ms (plain d fs) (json_of (plain d fs)) covers1
+            (leaves p s f.outer path hash gcv D g X1 c
+            (test_there p s f.outer path hash gcv D g X1 c d H gets_file (ap or_undefined (get_member_at h7 d fs (name_units hash_) (unit_text hash.units) holds_file has))
+            ∙ ap (λ b. Comes (Normal (value.Primitive (primitive.Boolean (not b)))) (now_with X1 bs7)) (key_same hash.units)))
+            covered1 at refl (json_same path.units (plain d fs) ms at) (others1 c) longer1 (λ key y e there. there) (λ test new old. old),
+        refl,
+      )
 
 pub opens_other : OpensOther
 opens_other p s env name path hash gcv made g c ms f covered bare none = other p s env name path hash gcv made g f c ms covered bare none
@@ -414,6 +456,12 @@ module _ (p : Sources) (s : Store) (env : ℕ) (name : List ℕ) (path hash gcv 
       let y = grown2 o x.0 in
       (subst (λ n. o < n) (sym changed.size) y.0, changed.others o n ∙ y.1 ∙ x.1)
 
+  longer_c : length s.heap.objects ≤ c
+  longer_c = grown_length s.heap M.heap M.grows.objects
+
+  longer3 : length s.heap.objects ≤ length Y3
+  longer3 = let l = length_push Y1 (plain_object []) in let z = changed.size in let n = longer_c in omega (arith, l, z, n)
+
   first : Opened p s env name path gcv.units g c empty (data_of made)
   first = opens_put p s env name path hash gcv made g f Y3 c empty first_covered data_held
       (on_both (Below c) (Below c) (Off c) (λ o r a b q. omega (arith, a, q)) M.placed data_low data_low)
@@ -424,8 +472,8 @@ module _ (p : Sources) (s : Store) (env : ℕ) (name : List ℕ) (path hash gcv 
       (replaces p s f.outer path hash gcv DD g Y3 c (with_objects (slice_set Y3 c (plain_object (assigned path.units DD ∷ []))) names6)
       (test_absent p s f.outer path hash gcv DD g Y3 c (ap or_undefined nothing3))
       (put_new (with_objects Y3 names6) c path.units DD (Some (number_of ObjectPrototype)) [] [] first_covered.holds.0.1 refl bare3))
-      others3
+      others3 longer3
 
 pub opens_first : OpensFirst
 opens_first p s env name path hash gcv made g f before bare not_global =
-    (c p s env name path hash gcv made g f before bare not_global, first p s env name path hash gcv made g f before bare not_global)
+    (c p s env name path hash gcv made g f before bare not_global, longer_c p s env name path hash gcv made g f before bare not_global, first p s env name path hash gcv made g f before bare not_global)

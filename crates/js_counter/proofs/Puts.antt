@@ -1,5 +1,5 @@
 -- A member that is put among others.
-use Rattle.std.proofs.Common.{◌≡◌, ℕ, ◌+◌, ◌<◌, Bool, true, false, List, [], ◌∷◌, ◌++◌, Option, Some, None, refl, ap, ◌∙◌, arith, if◌then◌else◌}
+use Rattle.std.proofs.Common.{◌≡◌, ℕ, ◌+◌, ◌<◌, Bool, true, false, List, [], ◌∷◌, ◌++◌, Option, Some, None, refl, sym, ap, ◌∙◌, arith, if◌then◌else◌}
 use Rattle.std.specs.Str.{bytes_eq}
 use Rattle.std.proofs.lemmas.Slice.Eq.{bytes_eq-Decides}
 use Rattle.js_value.specs.declared.value.Value.{Value}
@@ -48,6 +48,17 @@ there_by : (key q : List ℕ) (x y : Placed) (ms : PlacedMembers) → member_at 
     member_at (if t then member q y ms else member q x (put_in key y ms)) key ≡ Some y
 there_by key q x y ms h true e = ap (λ b. if b then Some y else member_at ms key) e
 there_by key q x y ms h false e = ap (λ b. if b then Some x else member_at (put_in key y ms) key) e ∙ h
+
+pub put_elsewhere : (key : List ℕ) (y : Placed) (ms : PlacedMembers) (other : List ℕ) → bytes_eq key other ≡ false → member_at (put_in key y ms) other ≡ member_at ms other
+put_elsewhere key y empty other e = ap (λ b. if b then Some y else None) e
+put_elsewhere key y (member q x ms) other e = by (bytes_eq q key) refl (put_elsewhere key y ms other e)
+  where
+    by : (b : Bool) → bytes_eq q key ≡ b → member_at (put_in key y ms) other ≡ member_at ms other →
+        member_at (if b then member q y ms else member q x (put_in key y ms)) other ≡ (if bytes_eq q other then Some x else member_at ms other)
+    by true f rest =
+        let no : bytes_eq q other ≡ false = ap (λ k. bytes_eq k other) ((bytes_eq-Decides q key).0 f) ∙ e in
+        ap (λ b. if b then Some y else member_at ms other) no ∙ sym (ap (λ b. if b then Some x else member_at ms other) no)
+    by false f rest = ap (λ r. if bytes_eq q other then Some x else r) rest
 
 pub put_there : (key : List ℕ) (y : Placed) (ms : PlacedMembers) → member_at (put_in key y ms) key ≡ Some y
 put_there key y empty = ap (λ b. if b then Some y else None) (key_same key)

@@ -1,5 +1,6 @@
 -- The start of a file that has counters.
-use Rattle.std.proofs.Common.{◌≡◌, ℕ, suc, List, [], ◌∷◌, None, refl, sym, ap, ◌∙◌}
+use Rattle.std.proofs.Common.{Option, ◌≡◌, ℕ, suc, List, [], ◌∷◌, None, refl, sym, ap, ◌∙◌}
+use Rattle.js_tree.specs.declared.place.Loc.{Loc}
 use Rattle.js_tree.specs.declared.words.Spelled.{Spelled}
 use Rattle.js_tree.specs.Plain.{Stmt, Stmts, no_stmt, more_stmt, FunctionDeclaration, MakeFunction, MakeFunctionBody, no_param}
 use Rattle.js_value.specs.declared.value.Value.{Value}
@@ -25,7 +26,7 @@ same_run p c d s t n e = eval_point (inside p) n c s ∙ ap (from_point (inside 
 
 module _ (p : Sources) (env : ℕ) (j k : Completion → Comp) where
   -- a list that goes on is run on
-  directives_done : (ds : List Spelled) (x : Stmt) (xs : Stmts) (s : Store) →
+  directives_done : (ds : List (Option Loc × Spelled)) (x : Stmt) (xs : Stmts) (s : Store) →
       point (handle (handle (comp_stmts p (after_directives ds (more_stmt x xs)) env) j) k) s ≡ point (handle (handle (comp_stmts p (more_stmt x xs) env) j) k) s
   directives_done [] x xs s = refl
   directives_done (d ∷ []) x xs s = refl

@@ -53,5 +53,5 @@ unfolding realm.opening realm.each realm.freeze_all realm.rows realm.named_error
 not_inherited = (omega arith, refl, refl)
 
 pub opens : Opens
-opens = starts_first program file 0 [] name (spelled (codes "a.js")) (spelled (codes "h")) (spelled (codes "__coverage__")) zero_data 0 1 no_stmt [] realm.realm (number_of Global)
-    refl fresh uncovered not_inherited (λ e. omega (arith, e))
+opens = let x = starts_first program file 0 [] name (spelled (codes "a.js")) (spelled (codes "h")) (spelled (codes "__coverage__")) zero_data 0 1 no_stmt [] realm.realm (number_of Global)
+    refl fresh uncovered not_inherited (λ e. omega (arith, e)) in (x.0, x.2)

@@ -1,5 +1,5 @@
 -- What the first call of a file's function leaves.
-use Rattle.std.specs.Prelude.{◌≡◌, ◌≢◌, ℕ, ◌+◌, ◌<◌, false, List, length, codes, slice_set, Option, Some, None, if◌then◌else◌}
+use Rattle.std.specs.Prelude.{◌≡◌, ◌≢◌, ℕ, ◌+◌, ◌<◌, ◌≤◌, Bool, false, IsTrue, List, length, codes, slice_set, Option, Some, None, if◌then◌else◌}
 use Rattle.std.specs.Str.{bytes_eq}
 use Rattle.js_tree.specs.declared.words.Spelled.{Spelled}
 use Rattle.js_value.specs.declared.value.Value.{Value}
@@ -13,7 +13,7 @@ use Rattle.js_value.specs.Running.{on_heap}
 use Rattle.js_value.specs.Realm.{number_of, object, text, undefined}
 use Rattle.js_meaning.specs.Program.{Sources, function_at}
 use Rattle.js_meaning.specs.Meaning.{comp_expr}
-use Rattle.js_counter.specs.Represents.{Json, JsonMembers, no_members, members, Placed, PlacedMembers, empty, member, plain, unit_text, json_of, json_members, value_at, Holds, Distinct, member_at}
+use Rattle.js_counter.specs.Represents.{Json, JsonMembers, no_members, members, Placed, PlacedMembers, empty, member, plain, unit_text, json_of, json_members, value_at, OnMembers, Holds, Distinct, member_at}
 use Rattle.js_counter.specs.Literals.{Literal, expr_of, data_of, KeysApart}
 use Rattle.js_meaning.specs.Points.{TakesOne}
 use Rattle.js_counter.specs.Steady.{gives_actual, call_of, Ready}
@@ -108,12 +108,20 @@ pub record Opened (p : Sources) (s : Store) (env : ℕ) (name : List ℕ) (path 
     bindings = slice_set (environment_at s.heap cell.environment).bindings cell.place (record (binding_at s.heap cell) { value = Some (object function) });
   }
   pub one_more : next_environment store.heap ≡ next_environment s.heap + 1
+  -- the function that replaces it is new, and so is its environment; what is made is younger than what is around it
+  pub same_cell : ready.cell ≡ cell
+  pub new_function : length s.heap.objects ≤ ready.function
+  pub new_inner : next_environment s.heap ≤ ready.inner
+  pub older : (e o : ℕ) → e < next_environment store.heap → (environment_at store.heap e).outer ≡ Some o → o < e
+  -- data of other paths are where they were, and those of this one are made of new objects, or were there
+  pub kept : (key : List ℕ) (y : Placed) → bytes_eq path.units key ≡ false → member_at ms key ≡ Some y → member_at after key ≡ Some y
+  pub made : (test : ℕ → Bool) → ((o : ℕ) → length s.heap.objects ≤ o → IsTrue (test o)) → OnMembers (λ o r. IsTrue (test o)) ms → OnMembers (λ o r. IsTrue (test o)) after
 
 -- no coverage yet
 abbrev pub OpensFirst : Type 0
 OpensFirst = (p : Sources) (s : Store) (env : ℕ) (name : List ℕ) (path hash gcv : Spelled) (made : Literal) (g : ℕ) →
     Fresh p s.heap env name path hash gcv made g → Uncovered s.heap g gcv.units → NotInherited s.heap path.units → number_of ObjectPrototype ≢ g →
-    (c : ℕ) × Opened p s env name path gcv.units g c empty (data_of made)
+    (c : ℕ) × (length s.heap.objects ≤ c) × Opened p s env name path gcv.units g c empty (data_of made)
 
 -- coverage of other files
 abbrev pub OpensOther : Type 0
@@ -131,4 +139,5 @@ OpensAnew = (p : Sources) (s : Store) (env : ℕ) (name : List ℕ) (path hash g
 abbrev pub OpensAgain : Type 0
 OpensAgain = (p : Sources) (s : Store) (env : ℕ) (name : List ℕ) (path hash gcv : Spelled) (made : Literal) (g c : ℕ) (ms : PlacedMembers) (d : ℕ) (fs : PlacedMembers) →
     Fresh p s.heap env name path hash gcv made g → Covered s.heap g gcv.units c ms →
-    member_at ms path.units ≡ Some (plain d fs) → member_at fs (name_units hash_) ≡ Some (unit_text hash.units) → Opened p s env name path gcv.units g c ms (json_of (plain d fs))
+    member_at ms path.units ≡ Some (plain d fs) → member_at fs (name_units hash_) ≡ Some (unit_text hash.units) →
+    (x : Opened p s env name path gcv.units g c ms (json_of (plain d fs))) × (x.file ≡ plain d fs)

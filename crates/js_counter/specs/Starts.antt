@@ -1,7 +1,8 @@
 -- The start of a file that has counters: it asks for the step of its function's first call, and goes on at its own statements.
-use Rattle.std.specs.Prelude.{◌≡◌, ◌≢◌, ℕ, suc, ◌+◌, ◌<◌, false, List, [], ◌∷◌, ◌++◌, map, length, codes, Some, None}
+use Rattle.std.specs.Prelude.{◌≡◌, ◌≢◌, ℕ, suc, ◌+◌, ◌<◌, ◌≤◌, false, List, [], ◌∷◌, ◌++◌, map, length, codes, Option, Some, None}
 use Rattle.std.specs.Str.{bytes_eq}
 use Rattle.js_tree.specs.declared.words.Comment.{Comment}
+use Rattle.js_tree.specs.declared.place.Loc.{Loc}
 use Rattle.js_tree.specs.declared.words.Spelled.{Spelled}
 use Rattle.js_tree.specs.Plain.{Directive, FunctionDeclaration, MakeFunction, MakeFunctionBody, no_param, Stmts, more_stmt, MakeFile}
 use Rattle.js_value.specs.declared.value.Value.{Value}
@@ -28,11 +29,11 @@ use Rattle.js_counter.specs.First.{hash_, does, first_body, first_code, locals, 
 use Rattle.js_counter.specs.Preamble.{Fresh, Uncovered, Covered, NotInherited, Opened}
 
 -- what a file begins with: its directives, its function, and a call of it
-abbrev pub after_directives : List Spelled → Stmts → Stmts
+abbrev pub after_directives : List (Option Loc × Spelled) → Stmts → Stmts
 after_directives [] xs = xs
-after_directives (d ∷ ds) xs = more_stmt (Directive None d) (after_directives ds xs)
+after_directives (d ∷ ds) xs = more_stmt (Directive d.0 d.1) (after_directives ds xs)
 
-abbrev pub opening_of : List Spelled → (name : List ℕ) → (path hash gcv : Spelled) → Literal → (number next : ℕ) → Stmts → Stmts
+abbrev pub opening_of : List (Option Loc × Spelled) → (name : List ℕ) → (path hash gcv : Spelled) → Literal → (number next : ℕ) → Stmts → Stmts
 opening_of ds name path hash gcv made number next rest = after_directives ds
     (more_stmt (FunctionDeclaration None (record { loc = None; name = name }) (MakeFunction number no_param (MakeFunctionBody None (first_body name path hash gcv (expr_of made) next))))
     (more_stmt (does (call_of name)) rest))
@@ -49,7 +50,7 @@ file_store source file xs s = let b = begin source file s in on_heap (file_heap 
 
 -- where the call takes a step there, so does the start of the file
 abbrev pub StartsFile : Type 0
-StartsFile = (p : Sources) (source : Source) (file : ℕ) (ds : List Spelled) (name : List ℕ) (path hash gcv : Spelled) (made : Literal) (number next : ℕ) (rest : Stmts) (comments : List Comment)
+StartsFile = (p : Sources) (source : Source) (file : ℕ) (ds : List (Option Loc × Spelled)) (name : List ℕ) (path hash gcv : Spelled) (made : Literal) (number next : ℕ) (rest : Stmts) (comments : List Comment)
     (s t : Store) (v : Value) → source.tree ≡ MakeFile (opening_of ds name path hash gcv made number next rest) comments →
     TakesOne p (comp_expr p (call_of name) (file_env (begin source file s))) (file_store source file (opening_of ds name path hash gcv made number next rest) s) v t →
     ((j : Completion → Comp) → eval (inside p) 0 (handle (run_source p source file) j) s ≡ Stopped (file_store source file (opening_of ds name path hash gcv made number next rest) s))
@@ -86,7 +87,7 @@ pub record FileFresh (p : Sources) (xs : Stmts) (name : List ℕ) (path hash gcv
 
 -- at its call the name holds the function, not called before, and what was there before is there still
 abbrev pub BeginsFresh : Type 0
-BeginsFresh = (p : Sources) (source : Source) (file : ℕ) (ds : List Spelled) (name : List ℕ) (path hash gcv : Spelled) (made : Literal) (number next : ℕ) (rest : Stmts) (s : Store) (g : ℕ) →
+BeginsFresh = (p : Sources) (source : Source) (file : ℕ) (ds : List (Option Loc × Spelled)) (name : List ℕ) (path hash gcv : Spelled) (made : Literal) (number next : ℕ) (rest : Stmts) (s : Store) (g : ℕ) →
     FileFresh p (opening_of ds name path hash gcv made number next rest) name path hash gcv made number next rest s g →
     Fresh p (file_store source file (opening_of ds name path hash gcv made number next rest) s).heap (file_env (begin source file s)) name path hash gcv made g
     × ((o : ℕ) → o < length s.heap.objects → (o < length (file_store source file (opening_of ds name path hash gcv made number next rest) s).heap.objects)
@@ -105,15 +106,15 @@ pub record StartsWith (p : Sources) (source : Source) (file : ℕ) (xs rest : St
 
 -- the first file of a program that has counters
 abbrev pub StartsFirst : Type 0
-StartsFirst = (p : Sources) (source : Source) (file : ℕ) (ds : List Spelled) (name : List ℕ) (path hash gcv : Spelled) (made : Literal) (number next : ℕ) (rest : Stmts) (comments : List Comment) (s : Store) (g : ℕ) →
+StartsFirst = (p : Sources) (source : Source) (file : ℕ) (ds : List (Option Loc × Spelled)) (name : List ℕ) (path hash gcv : Spelled) (made : Literal) (number next : ℕ) (rest : Stmts) (comments : List Comment) (s : Store) (g : ℕ) →
     source.tree ≡ MakeFile (opening_of ds name path hash gcv made number next rest) comments →
     FileFresh p (opening_of ds name path hash gcv made number next rest) name path hash gcv made number next rest s g →
     Uncovered s.heap g gcv.units → NotInherited s.heap path.units → number_of ObjectPrototype ≢ g →
-    (c : ℕ) × StartsWith p source file (opening_of ds name path hash gcv made number next rest) rest s name path gcv.units g c empty (data_of made)
+    (c : ℕ) × (length s.heap.objects ≤ c) × StartsWith p source file (opening_of ds name path hash gcv made number next rest) rest s name path gcv.units g c empty (data_of made)
 
 -- another file of it
 abbrev pub StartsOther : Type 0
-StartsOther = (p : Sources) (source : Source) (file : ℕ) (ds : List Spelled) (name : List ℕ) (path hash gcv : Spelled) (made : Literal) (number next : ℕ) (rest : Stmts) (comments : List Comment) (s : Store) (g c : ℕ) (ms : PlacedMembers) →
+StartsOther = (p : Sources) (source : Source) (file : ℕ) (ds : List (Option Loc × Spelled)) (name : List ℕ) (path hash gcv : Spelled) (made : Literal) (number next : ℕ) (rest : Stmts) (comments : List Comment) (s : Store) (g c : ℕ) (ms : PlacedMembers) →
     source.tree ≡ MakeFile (opening_of ds name path hash gcv made number next rest) comments →
     FileFresh p (opening_of ds name path hash gcv made number next rest) name path hash gcv made number next rest s g →
     Covered s.heap g gcv.units c ms → NotInherited s.heap path.units → member_at ms path.units ≡ None →
@@ -121,8 +122,8 @@ StartsOther = (p : Sources) (source : Source) (file : ℕ) (ds : List Spelled) (
 
 -- the same file again, after it has left the cache
 abbrev pub StartsAgain : Type 0
-StartsAgain = (p : Sources) (source : Source) (file : ℕ) (ds : List Spelled) (name : List ℕ) (path hash gcv : Spelled) (made : Literal) (number next : ℕ) (rest : Stmts) (comments : List Comment) (s : Store) (g c : ℕ) (ms : PlacedMembers) (d : ℕ) (fs : PlacedMembers) →
+StartsAgain = (p : Sources) (source : Source) (file : ℕ) (ds : List (Option Loc × Spelled)) (name : List ℕ) (path hash gcv : Spelled) (made : Literal) (number next : ℕ) (rest : Stmts) (comments : List Comment) (s : Store) (g c : ℕ) (ms : PlacedMembers) (d : ℕ) (fs : PlacedMembers) →
     source.tree ≡ MakeFile (opening_of ds name path hash gcv made number next rest) comments →
     FileFresh p (opening_of ds name path hash gcv made number next rest) name path hash gcv made number next rest s g →
     Covered s.heap g gcv.units c ms → member_at ms path.units ≡ Some (plain d fs) → member_at fs (name_units hash_) ≡ Some (unit_text hash.units) →
-    StartsWith p source file (opening_of ds name path hash gcv made number next rest) rest s name path gcv.units g c ms (json_of (plain d fs))
+    (x : StartsWith p source file (opening_of ds name path hash gcv made number next rest) rest s name path gcv.units g c ms (json_of (plain d fs))) × (x.opened.file ≡ plain d fs)

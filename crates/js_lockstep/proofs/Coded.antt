@@ -41,7 +41,7 @@ at_file (x ∷ xs) (suc n) i source e lt =
     ap (slice_get (functions_file x.tree ++ functions_of xs)) (let z : length (functions_file x.tree) + starts_at xs n + i ≡ length (functions_file x.tree) + (starts_at xs n + i) = omega arith in z)
     ∙ right_of (functions_file x.tree) (functions_of xs) (starts_at xs n + i) ∙ at_file xs n i source e lt
 
-at_program : (p : Sources) (file i : ℕ) (source : Source) → slice_get p.files file ≡ Some source → i < length (functions_file source.tree) →
+pub at_program : (p : Sources) (file i : ℕ) (source : Source) → slice_get p.files file ≡ Some source → i < length (functions_file source.tree) →
     function_at p (start_of p file + i) ≡ slice_get (functions_file source.tree) i
 at_program p file i source e lt =
     ap (slice_get (functions p)) (let z : length (functions_file p.prelude) + starts_at p.files file + i ≡ length (functions_file p.prelude) + (starts_at p.files file + i) = omega arith in z)
