@@ -1,9 +1,8 @@
 -- The literal of a value: data as the preamble spells it.
-use Rattle.std.proofs.Common.{◌≡◌, ℕ, ◌<◌, ◌^◌, Bool, true, false, List, decimal, codes, refl, sym, subst, ap, ap₂, ◌∙◌, arith, lt-ltb}
+use Rattle.std.proofs.Common.{◌≡◌, ℕ, ◌<◌, ◌^◌, false, List, decimal, codes, refl, sym, subst, ap, ap₂, ◌∙◌, arith, lt-ltb}
 use Rattle.std.specs.Prelude.{bytes_eq, if◌then◌else◌, None}
 use Rattle.std.specs.Str.{IsUtf8}
-use Rattle.std.proofs.lemmas.Slice.Eq.{bytes_eq-Decides}
-use Rattle.std.specs.declared.cmp.Ordering.TheVariants.{Less, Equal}
+use Rattle.std.specs.declared.cmp.Ordering.TheVariants.{Less}
 use Rattle.serde_json.specs.Data.{Data, null, boolean, number, unsigned, negative, float, string, array, object, Items, no_items, item, Members, no_members, member}
 use Rattle.js_tree.specs.Plain.{more_expr, more_property, NumericLiteral, ArrayLiteral, ObjectLiteral, KeyValue, StringKey}
 use Rattle.js_value.specs.Functions.{name_units}
@@ -15,7 +14,7 @@ use Rattle.js_counter.specs.Literals.{LiteralItems, LiteralMembers, exprs_of, pr
 use Rattle.cov_rewritten.specs.Preamble.{json_string, literals, literal_members}
 use Rattle.cov_expected.specs.Told.{text_of, json_of, items_json, members_json}
 use Rattle.cov_expected.proofs.Texts.{text_back}
-use Rattle.cov_expected.proofs.Ordered.{cmp, cmp_same, Above, AreSorted}
+use Rattle.cov_expected.proofs.Ordered.{less_apart, unequal, cmp, Above, AreSorted}
 use Rattle.cov_expected.proofs.Values.{IsGood, AreGood, MembersAreGood}
 use Rattle.cov_counted.specs.Literals.{SpellsUnits, LiteralOf}
 
@@ -33,19 +32,9 @@ record MembersOf (ms : Members) : Type 0 where
 
 -- ---- keys
 
-less_equal : Less ≡ Equal → ⊥
-less_equal e = cc
-
-apart : (a b : List ℕ) → cmp a b ≡ Less → a ≡ b → ⊥
-apart a b less same = less_equal (sym less ∙ ap (cmp a) (sym same) ∙ cmp_same a)
-
-other_by : (a b : List ℕ) (t : Bool) → bytes_eq a b ≡ t → (a ≡ b → ⊥) → bytes_eq a b ≡ false
-other_by a b false is other = is
-other_by a b true is other = absurd (other ((bytes_eq-Decides a b).0 is))
-
 other_units : (k l : List ℕ) → IsUtf8 k → IsUtf8 l → cmp k l ≡ Less → bytes_eq (name_units k) (name_units l) ≡ false
 other_units k l utf8 also less =
-    other_by (name_units k) (name_units l) (bytes_eq (name_units k) (name_units l)) refl (λ same. apart k l less (sym (text_back k utf8) ∙ ap text_of same ∙ text_back l also))
+    unequal (name_units k) (name_units l) (λ same. less_apart k l less (sym (text_back k utf8) ∙ ap text_of same ∙ text_back l also))
 
 -- what stands in members that are the same
 record SameFirst (key other : List ℕ) (rest more : JsonMembers) : Type 0 where

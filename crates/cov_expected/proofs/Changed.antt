@@ -20,7 +20,7 @@ use Rattle.js_value.specs.Functions.{name_units}
 use Rattle.js_counter.specs.Represents.{Members, json_ticked, json_ticked_members, members}
 use Rattle.cov_expected.specs.Told.{text_of, json_of, members_json}
 use Rattle.cov_expected.proofs.Texts.{text_back, one_unit}
-use Rattle.cov_expected.proofs.Ordered.{cmp, cmp_same, Entry, put_entry, Above, AreSorted}
+use Rattle.cov_expected.proofs.Ordered.{less_apart, unequal, cmp, Entry, put_entry, Above, AreSorted}
 use Rattle.cov_object.proofs.ReadText.{sorted-fold}
 
 -- ---- values changed by their keys
@@ -77,16 +77,6 @@ module _ (P : List ℕ → Data → Type 0) where
 
 -- ---- the member that a key leads to
 
-less_equal : Less ≡ Equal → ⊥
-less_equal e = cc
-
-apart : (a b : List ℕ) → cmp a b ≡ Less → a ≡ b → ⊥
-apart a b less same = less_equal (sym less ∙ ap (cmp a) (sym same) ∙ cmp_same a)
-
-other_by : (a b : List ℕ) (t : Bool) → bytes_eq a b ≡ t → (a ≡ b → ⊥) → bytes_eq a b ≡ false
-other_by a b false is other = is
-other_by a b true is other = absurd (other ((bytes_eq-Decides a b).0 is))
-
 module _ (key : List ℕ) (keys : List (List ℕ)) (change : Data → Data) where
   abbrev pub at_key : List ℕ → Data → Data
   at_key k d = if bytes_eq (name_units k) key then change d else d
@@ -99,8 +89,8 @@ module _ (key : List ℕ) (keys : List (List ℕ)) (change : Data → Data) wher
   rest_stays : (k : List ℕ) (ms : DataMembers) → IsUtf8 k → name_units k ≡ key → Above k ms → AllMembers IsTick ms → members_json ms ≡ members_json (changed at_key ms)
   rest_stays k no_members utf8 is above all = refl
   rest_stays k (member l e ms) utf8 is above all =
-      let other : bytes_eq (name_units l) key ≡ false = other_by (name_units l) key (bytes_eq (name_units l) key) refl
-      (λ same. apart k l above.0 (sym (text_back k utf8) ∙ ap text_of (is ∙ sym same) ∙ text_back l all.0.0)) in
+      let other : bytes_eq (name_units l) key ≡ false = unequal (name_units l) key
+      (λ same. less_apart k l above.0 (sym (text_back k utf8) ∙ ap text_of (is ∙ sym same) ∙ text_back l all.0.0)) in
       ap (members (name_units l) (json_of e)) (rest_stays k ms utf8 is above.1 all.1)
       ∙ ap (λ b. members (name_units l) (json_of (if b then change e else e)) (members_json (changed at_key ms))) (sym other)
 
@@ -138,7 +128,7 @@ same_id a b t low small is = ap (λ us. bytes_eq us (decimal b)) (decimal_units 
   where
     by : (t : Bool) → nat_eq a b ≡ t → bytes_eq (decimal a) (decimal b) ≡ t
     by true is = (bytes_eq-Decides (decimal a) (decimal b)).1 (ap decimal (eqb-true a b is))
-    by false is = other_by (decimal a) (decimal b) (bytes_eq (decimal a) (decimal b)) refl (λ same. never (sym (eq-eqb a b (decimal_injective a b low small same)) ∙ is))
+    by false is = unequal (decimal a) (decimal b) (λ same. never (sym (eq-eqb a b (decimal_injective a b low small same)) ∙ is))
 
 module _ {T : Type 0} (f : T → Data) (n : ℕ) (small : n < 2 ^ 64) (keys : List (List ℕ)) (change : Data → Data) (more : ℕ × T → ℕ × T)
     (same : (x : ℕ × T) → (more x).0 ≡ x.0) (once : (x : ℕ × T) → f (more x).1 ≡ (if nat_eq x.0 n then change (f x.1) else f x.1))

@@ -6,6 +6,7 @@ use Rattle.std.specs.declared.cmp.Ordering.{Ordering}
 use Rattle.std.specs.declared.cmp.Ordering.TheVariants.{Less, Equal, Greater}
 use Rattle.std.specs.BTreeMap.{insert_entry}
 use Rattle.std.proofs.lemmas.List.{map-append}
+use Rattle.std.proofs.lemmas.Bool.{and_parts}
 use Rattle.std.proofs.lemmas.Map.Lookups.{exact_unsigned}
 use Rattle.std.proofs.lemmas.Fmt.{decimal_digit, decimal_step}
 use Rattle.serde_json.specs.Data.{Data, Members, put}
@@ -19,11 +20,6 @@ use Rattle.cov_expected.proofs.Ordered.{cmp, cmp_same, Differ, differ_turned, En
 inj : {X : Type 0} {a b : X} → Some a ≡ Some b → a ≡ b
 inj e = cc
 
-both : (a b : Bool) → (a && b) ≡ true → (a ≡ true) × (b ≡ true)
-both true true e = (refl, refl)
-both true false e = absurd (cc)
-both false b e = absurd (cc)
-
 record Digit (u d : ℕ) : Type 0 where
   low : d < 10
   is : 48 + d ≡ u
@@ -31,7 +27,7 @@ record Digit (u d : ℕ) : Type 0 where
 digit_by : (u d : ℕ) (b : Bool) → (nat_le 48 u && nat_le u 57) ≡ b → (if b then Some (u - 48) else None) ≡ Some d → Digit u d
 digit_by u d false is e = absurd (cc)
 digit_by u d true is e =
-    let parts = both _ _ is in
+    let parts = and_parts _ _ is in
     let from = leb-true 48 u parts.0 in
     let to = leb-true u 57 parts.1 in
     let held : u - 48 ≡ d = inj e in

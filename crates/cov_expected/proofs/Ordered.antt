@@ -1,5 +1,7 @@
 -- Members by their keys: in which order they are put doesn't matter.
-use Rattle.std.proofs.Common.{◌≡◌, ℕ, List, [], ◌∷◌, ◌++◌, fold, refl, sym, ap, ◌∙◌}
+use Rattle.std.proofs.Common.{false, true, Bool, ◌≡◌, ℕ, List, [], ◌∷◌, ◌++◌, fold, refl, sym, ap, ◌∙◌}
+use Rattle.std.specs.Prelude.{bytes_eq}
+use Rattle.std.proofs.lemmas.Slice.Eq.{bytes_eq-Decides}
 use Rattle.std.specs.Ordering.{nat_cmp, match_ordering, ordering_reverse}
 use Rattle.std.specs.declared.cmp.Ordering.{Ordering}
 use Rattle.std.specs.declared.cmp.Ordering.TheVariants.{Less, Equal, Greater}
@@ -27,6 +29,19 @@ same_by x Greater is turned = absurd (cc)
 
 pub cmp_same : (x : List ℕ) → cmp x x ≡ Equal
 cmp_same x = same_by x (cmp x x) refl (nat_list_cmp_total.antisymm x x)
+
+less_equal : Less ≡ Equal → ⊥
+less_equal e = cc
+
+pub less_apart : (a b : List ℕ) → cmp a b ≡ Less → a ≡ b → ⊥
+less_apart a b less same = less_equal (sym less ∙ ap (cmp a) (sym same) ∙ cmp_same a)
+
+unequal_by : (a b : List ℕ) (t : Bool) → bytes_eq a b ≡ t → (a ≡ b → ⊥) → bytes_eq a b ≡ false
+unequal_by a b false is other = is
+unequal_by a b true is other = absurd (other ((bytes_eq-Decides a b).0 is))
+
+pub unequal : (a b : List ℕ) → (a ≡ b → ⊥) → bytes_eq a b ≡ false
+unequal a b other = unequal_by a b (bytes_eq a b) refl other
 
 pub differ_turned : (a b : List ℕ) → Differ a b → Differ b a
 differ_turned a b d is = d (turned b a Equal is)
@@ -115,10 +130,3 @@ stays_first k d rest (member l e ms) above =
 pub sorted_back : (ms : Members) → AreSorted ms → by_key (entries ms) ≡ ms
 sorted_back no_members sorted = refl
 sorted_back (member k d ms) sorted = stays_first k d no_members ms sorted.0 ∙ ap (member k d) (sorted_back ms sorted.1)
-
-above_apart : (k : List ℕ) (d : Data) (ms : Members) → Above k ms → Away k (entries ms)
-above_apart k d no_members above = tt
-above_apart k d (member l e ms) above = (λ same. less_equal (sym above.0 ∙ same), above_apart k d ms above.1)
-  where
-    less_equal : Less ≡ Equal → ⊥
-    less_equal e = cc

@@ -1,5 +1,5 @@
 -- What a heap holds as objects and arrays of their own is read back.
-use Rattle.std.proofs.Common.{◌≡◌, ℕ, zero, suc, ◌≤◌, List, [], ◌∷◌, ◌++◌, map, fold, Bool, true, false, if◌then◌else◌, Option, Some, None, option_map, pos, negsuc, refl, sym, ap, ◌∙◌, arith, encode_utf8_all}
+use Rattle.std.proofs.Common.{◌≡◌, ℕ, zero, suc, ◌≤◌, List, [], ◌∷◌, ◌++◌, map, fold, true, false, if◌then◌else◌, Option, Some, None, option_map, pos, negsuc, refl, sym, ap, ◌∙◌, arith, encode_utf8_all}
 use Rattle.std.specs.Prelude.{bytes_eq}
 use Rattle.std.specs.Char.Utf16.{has_unpaired_surrogate, utf16_lossy_chars}
 use Rattle.std.specs.BTreeMap.{insert_entry}
@@ -27,17 +27,13 @@ use Rattle.js_coverage.specs.Coverage as read
 use Rattle.js_counter.specs.Represents.{Json, JsonMembers, no_members, members, Placed, PlacedItems, PlacedMembers, null as placed_null, truth, negative, number, unit_text, array as placed_array, plain, none, item as placed_item, empty, member, json_of, json_items, json_members, value_at, values_of, properties_of, plain_object, plain_array, Holds, HoldsItems, HoldsMembers}
 use Rattle.cov_expected.specs.Told.{text_of, value_of, items_value, entries_of, nesting, item_nesting, member_nesting, IsNew, IsTellable, AreTellable, MembersAreTellable}
 use Rattle.cov_expected.specs.Laws.{Tells}
-use Rattle.cov_expected.proofs.Ordered.{Away}
+use Rattle.cov_expected.proofs.Ordered.{unequal, Away}
 use Rattle.cov_expected.proofs.Keys.{Apart, in_key_order, property_entries, entry_of}
 
 -- Keys
 
-other_by : (a b : List ℕ) (t : Bool) → bytes_eq a b ≡ t → (a ≡ b → ⊥) → bytes_eq a b ≡ false
-other_by a b false is other = is
-other_by a b true is other = absurd (other ((bytes_eq-Decides a b).0 is))
-
 other_key : (a b : List ℕ) → (text_of a ≡ text_of b → ⊥) → bytes_eq a b ≡ false
-other_key a b other = other_by a b (bytes_eq a b) refl (λ same. other (ap text_of same))
+other_key a b other = unequal a b (λ same. other (ap text_of same))
 
 same_key : (a : List ℕ) → bytes_eq a a ≡ true
 same_key a = (bytes_eq-Decides a a).1 refl

@@ -1,6 +1,6 @@
 -- A text in UTF-16, and back.
-use Rattle.std.proofs.Common.{◌≡◌, ℕ, ◌+◌, ◌-◌, ◌/◌, ◌%◌, ◌<◌, ◌≤◌, List, [], ◌∷◌, ◌++◌, map, Bool, true, false, not, ◌&&◌, Some, ◌⊎◌, inl, inr, refl, ap, ◌∙◌, arith, lt-ltb, le-ltb, le-leb, nat_lt, is_some, ltb-true}
-use Rattle.std.proofs.lemmas.Bool.{lt-leb, ltb-false}
+use Rattle.std.proofs.Common.{◌≡◌, ℕ, ◌+◌, ◌-◌, ◌/◌, ◌%◌, ◌<◌, ◌≤◌, List, [], ◌∷◌, ◌++◌, map, Bool, true, false, not, Some, ◌⊎◌, inl, inr, refl, ap, ◌∙◌, arith, lt-ltb, le-ltb, le-leb, nat_lt, is_some, ltb-true}
+use Rattle.std.proofs.lemmas.Bool.{and_parts, lt-leb, ltb-false}
 use Rattle.std.specs.List.{flat_map, list_any}
 use Rattle.std.specs.Option.{unwrap_or}
 use Rattle.std.specs.Str.{chars, IsUtf8}
@@ -21,11 +21,6 @@ two_units c high = rw (le-ltb c 0x1_0000 high) refl
 alone : (c : ℕ) → (c < 0xD800) ⊎ (0xE000 ≤ c) → lone_unit_char c ≡ Some c
 alone c (inl low) = rw (lt-leb 0xD800 c low) refl
 alone c (inr high) = rw (le-leb 0xD800 c (omega arith), le-ltb c 0xE000 high) refl
-
-both : (a b : Bool) → (a && b) ≡ true → (a ≡ true) × (b ≡ true)
-both true true e = (refl, refl)
-both true false e = absurd (cc)
-both false b e = absurd (cc)
 
 -- one character before units
 some_units : (c : ℕ) (rest : List ℕ) → (c < 0xD800) ⊎ ((0xE000 ≤ c) × (c < 0x11_0000)) → (c < 0x1_0000) ⊎ (0x1_0000 ≤ c) →
@@ -58,7 +53,7 @@ small_or c = small_by c (nat_lt c 0x1_0000) refl
 units_read : (cs : List ℕ) → scalars cs ≡ true → utf16_chars (flat_map encode_utf16 cs) ≡ map (λ c. Some c) cs
 units_read [] all = utf16_chars-nil
 units_read (c ∷ cs) all =
-    let parts = both (scalar c) (scalars cs) all in
+    let parts = and_parts (scalar c) (scalars cs) all in
     some_units c (flat_map encode_utf16 cs) (scalar_cases c parts.0) (small_or c)
     ∙ ap (λ rest. Some c ∷ rest) (units_read cs parts.1)
 

@@ -22,7 +22,7 @@ use Rattle.cov_object.proofs.DataForms.{put-depth}
 use Rattle.js_value.specs.Functions.{name_units}
 use Rattle.cov_expected.specs.Told.{value_of, items_value, entries_of, nesting, item_nesting, member_nesting, IsNew, IsTellable, AreTellable, MembersAreTellable, json_of, items_json, members_json}
 use Rattle.cov_expected.proofs.Texts.{text_back, paired}
-use Rattle.cov_expected.proofs.Ordered.{cmp, cmp_same, Entry, put_entry, Above, AreSorted, entries, sorted_back, sorted_put}
+use Rattle.cov_expected.proofs.Ordered.{less_apart, cmp, Entry, put_entry, Above, AreSorted, entries, sorted_back, sorted_put}
 
 abbrev mutual
   pub IsGood : Data → Type 0
@@ -66,16 +66,10 @@ mutual
       ∙ ap (λ x. (k, x) ∷ entries_of (members_json ms)) (value_back d good.1)
       ∙ ap (λ es. (k, d) ∷ es) (members_back ms good.2)
 
-less_equal : Less ≡ Equal → ⊥
-less_equal e = cc
-
-apart : (a b : List ℕ) → cmp a b ≡ Less → a ≡ b → ⊥
-apart a b less same = less_equal (sym less ∙ ap (cmp a) (sym same) ∙ cmp_same a)
-
 new_key : (k : List ℕ) (ms : Members) → IsUtf8 k → Above k ms → MembersAreGood ms → IsNew (name_units k) (members_json ms)
 new_key k no_members utf8 above good = tt
 new_key k (member l d ms) utf8 above good =
-    ((λ same. apart k l above.0 (sym (text_back k utf8) ∙ same ∙ text_back l good.0)), new_key k ms utf8 above.1 good.2)
+    ((λ same. less_apart k l above.0 (sym (text_back k utf8) ∙ same ∙ text_back l good.0)), new_key k ms utf8 above.1 good.2)
 
 mutual
   pub tellable : (d : Data) → IsGood d → IsTellable (json_of d)
