@@ -1,5 +1,5 @@
 -- What a task on a source comes to.
-use Rattle.std.proofs.Common.{◌≡◌, ℕ, ◌⊎◌, inl, inr, List, [], Option, Some, refl, sym, ap, ◌∙◌, subst, arith}
+use Rattle.std.proofs.Common.{◌≡◌, ℕ, ◌⊎◌, inl, inr, List, [], Option, None, Some, refl, sym, ap, ◌∙◌, subst, arith}
 use Rattle.std.specs.Prelude.{Result, Ok, Err}
 use Rattle.js_tree.specs.Plain.{File}
 use Rattle.js_text.specs.declared.text.TextFault.TheVariants as text
@@ -7,23 +7,27 @@ use Rattle.js_parser.specs.declared.refused.Refusal as R
 use Rattle.js_parser.specs.declared.refused.Refusal.TheVariants as refusal
 use Rattle.js_meaning.specs.declared.outcome.End.{End}
 use Rattle.js_meaning.specs.World.{PlainRun}
+use Rattle.js_coverage.specs.Coverage.{IsCoverage}
+use Rattle.cov_object.specs.declared.file.FileCoverage.{FileCoverage}
 use Rattle.cov_base.specs.Store.{Held}
 use Rattle.cov_sources.specs.declared.source.Source.{Source}
 use Rattle.cov_sources.specs.declared.why.Why.{Why}
 use Rattle.cov_sources.specs.declared.why.Why.TheVariants as cause
 use Rattle.cov_words.specs.declared.command.SourceTask.{SourceTask}
-use Rattle.cov_words.specs.declared.command.SourceTask.TheVariants.{Maps, Exec}
+use Rattle.cov_words.specs.declared.command.SourceTask.TheVariants.{Maps, Exec, Run}
 use Rattle.cov_run.specs.Exec.{EndsAs, Runs}
 use Rattle.cov_run.specs.Laws as L
 use Rattle.cov_run.specs.Laws.{Agree}
 use Rattle.cov_run.specs.Loaded as loaded
 use Rattle.cov_run.specs.Loaded.{IsNoSource, IsSource, IsUnread, Loaded}
+use Rattle.cov_run.specs.Session.{Counts, Leaves}
 use Rattle.cov_run.specs.declared.fault.LoadFault.{LoadFault}
 use Rattle.cov_run.specs.declared.fault.LoadFault.TheVariants as fault
 use Rattle.cov_run.proofs.Outcomes.{long_none, long_source, none_source, one_outcome, refuses, same_bytes, same_tree, something}
+use Rattle.cov_run.proofs.OneSession.{one_coverage, one_session}
 use Rattle.cov_run.proofs.Sources.{one_run}
 use Rattle.cov_commands.specs.Program.{GivesWay}
-use Rattle.cov_commands.specs.Source.{ComesTo, answer_of_maps, answer_of_run, mapped, maps_text, message_of_cause, message_of_fault, message_of_unread, ran, status_of_end, status_of_fault, status_of_outcome, unloaded, unread}
+use Rattle.cov_commands.specs.Source.{ComesTo, answer_of_counted, answer_of_maps, answer_of_run, counted, mapped, maps_text, message_of_cause, message_of_fault, message_of_unread, ran, status_of_end, status_of_fault, status_of_outcome, uncounted, unloaded, unread}
 use Rattle.cov_commands.specs.Status.{status_of}
 use Rattle.cov_commands.specs.declared.answer.Answer.{Answer}
 use Rattle.cov_commands.specs.declared.status.Status.{Status}
@@ -33,18 +37,28 @@ use Rattle.cov_commands.specs.declared.status.Status.TheVariants as status
 
 module _ (file : List ℕ) (told : Option Held) where
   pub maps_answer : {bytes printed : List ℕ} {tree : File} {end : End} → IsSource told file bytes tree → printed ≡ maps_text file bytes tree → end ≡ (answer_of_maps file bytes tree).end →
-      ComesTo file told Maps (Ok (record { output = printed; end = end }))
+      ComesTo file told Maps (Ok (record { output = printed; end = end; coverage = None }))
   maps_answer good same done = rw (same, done) (mapped good)
 
   pub wants : (task : SourceTask) → ComesTo file told task (Err fault.Memory)
   wants Maps = unread loaded.wanting
   wants (Exec turns) = unloaded loaded.wanting
+  wants (Run turns out exclude) = uncounted loaded.wanting
 
-  pub exec_answer : {sources : List Source} {turns : ℕ} {end : End} {output : List ℕ} → Loaded told file [] (Ok sources) → EndsAs sources file turns end output →
-      ComesTo file told (Exec turns) (Ok (record { output = output; end = end }))
-  exec_answer {turns = turns} loads ends =
-      subst (λ e. ComesTo file told (Exec turns) (Ok (record { output = _; end = e }))) ends.ends
-      (subst (λ o. ComesTo file told (Exec turns) (Ok (record { output = o; end = ends.run.end }))) ends.prints (ran loads ends.runs))
+  pub exec_answer : {sources : List Source} {turns : ℕ} {end : End} {output : List ℕ} {coverage : Option (List FileCoverage)} → Loaded told file [] (Ok sources) → EndsAs sources file turns end output →
+      coverage ≡ None → ComesTo file told (Exec turns) (Ok (record { output = output; end = end; coverage = coverage }))
+  exec_answer {turns = turns} {end = end} {output = output} loads ends none =
+      subst (λ c. ComesTo file told (Exec turns) (Ok (record { output = output; end = end; coverage = c }))) (sym none)
+      (subst (λ e. ComesTo file told (Exec turns) (Ok (record { output = output; end = e; coverage = None }))) ends.ends
+      (subst (λ o. ComesTo file told (Exec turns) (Ok (record { output = o; end = ends.run.end; coverage = None }))) ends.prints (ran loads ends.runs)))
+
+  pub run_answer : {sources : List Source} {turns : ℕ} {out : List ℕ} {exclude : List (List ℕ)} {end : End} {output : List ℕ} {coverage : Option (List FileCoverage)} {files : List FileCoverage} →
+      Loaded told file exclude (Ok sources) → Leaves sources turns end output files → coverage ≡ Some files →
+      ComesTo file told (Run turns out exclude) (Ok (record { output = output; end = end; coverage = coverage }))
+  run_answer {turns = turns} {out = out} {exclude = exclude} {end = end} {output = output} {files = files} loads left some =
+      subst (λ c. ComesTo file told (Run turns out exclude) (Ok (record { output = output; end = end; coverage = c }))) (sym some)
+      (subst (λ e. ComesTo file told (Run turns out exclude) (Ok (record { output = output; end = e; coverage = Some files }))) left.ends
+      (subst (λ o. ComesTo file told (Run turns out exclude) (Ok (record { output = o; end = left.run.end; coverage = Some files }))) left.prints (counted loads left.counts left.covers)))
 
 -- ---- a refusal has its status
 
@@ -75,6 +89,7 @@ pub fault_status : (file : List ℕ) (told : Option Held) (task : SourceTask) (w
 fault_status file told task fault.NoFile comes = refl
 fault_status file told Maps (fault.Refused path why) (unread is) = let bad = unread_refused told file path why (fault.Refused path why) refl is in no_source_status told path bad.0 why bad.1
 fault_status file told (Exec turns) (fault.Refused path why) (unloaded loads) = let bad = refuses told file [] path why loads in no_source_status told path bad.0 why bad.1
+fault_status file told (Run turns out exclude) (fault.Refused path why) (uncounted loads) = let bad = refuses told file exclude path why loads in no_source_status told path bad.0 why bad.1
 fault_status file told task (fault.TooLong path) comes = refl
 fault_status file told task fault.TooManyFiles comes = refl
 fault_status file told task (fault.ReadFault path) comes = refl
@@ -144,6 +159,15 @@ module _ (held : Held) (file : List ℕ) where
   same_runs : {ones others : List Source} {turns : ℕ} {one other : PlainRun} → ones ≡ others → Runs ones file turns one → Runs others file turns other → one ≡ other
   same_runs {ones = ones} {turns = turns} {one = one} {other = other} same here there = one_run ones file turns one other here (subst (λ s. Runs s file turns other) (sym same) there)
 
+  same_sessions : {ones others : List Source} {turns : ℕ} {one other : PlainRun} → ones ≡ others → Counts ones turns one → Counts others turns other → one ≡ other
+  same_sessions {ones = ones} {turns = turns} {one = one} {other = other} same here there = one_session ones turns one other here (subst (λ s. Counts s turns other) (sym same) there)
+
+  same_counted : {one other : PlainRun} {files others : List FileCoverage} → one ≡ other → IsCoverage one.store.heap files → IsCoverage other.store.heap others →
+      answer_of_counted one files ≡ answer_of_counted other others
+  same_counted {other = other} {files = files} {others = others} same here there =
+      let covers : IsCoverage other.store.heap files = subst (λ (run : PlainRun). IsCoverage run.store.heap files) same here in
+      ap (λ run. answer_of_counted run files) same ∙ ap (answer_of_counted other) (one_coverage other.store.heap files others covers there)
+
   pub one_status : (task : SourceTask) {one other : Result Answer LoadFault} → ComesTo file (Some held) task one → ComesTo file (Some held) task other → Same (status_of_outcome one) (status_of_outcome other)
   one_status task (mapped here) (mapped there) = inl refl
   one_status task (mapped here) (unread is) = inr (inr (not_both here is))
@@ -154,6 +178,11 @@ module _ (held : Held) (file : List ℕ) where
   one_status task (ran here runs) (unloaded there) = inr (inr (second_fault (one_outcome held file [] (Ok _) (Err _) here there)))
   one_status task (unloaded here) (ran there runs) = inr (inl (first_fault (one_outcome held file [] (Err _) (Ok _) here there)))
   one_status task (unloaded here) (unloaded there) = both_faults (one_outcome held file [] (Err _) (Err _) here there)
+  one_status task (counted {exclude = exclude} here counts covers) (counted there also covered) =
+      inl (ap (λ (run : PlainRun). status_of_end run.end) (same_sessions (no_fault (one_outcome held file exclude (Ok _) (Ok _) here there)) counts also))
+  one_status task (counted {exclude = exclude} here counts covers) (uncounted there) = inr (inr (second_fault (one_outcome held file exclude (Ok _) (Err _) here there)))
+  one_status task (uncounted {exclude = exclude} here) (counted there counts covers) = inr (inl (first_fault (one_outcome held file exclude (Err _) (Ok _) here there)))
+  one_status task (uncounted {exclude = exclude} here) (uncounted there) = both_faults (one_outcome held file exclude (Err _) (Err _) here there)
 
   answers : (task : SourceTask) {one other : Result Answer LoadFault} (first second : Answer) → one ≡ Ok first → other ≡ Ok second →
       ComesTo file (Some held) task one → ComesTo file (Some held) task other → first ≡ second
@@ -164,6 +193,10 @@ module _ (held : Held) (file : List ℕ) where
       ok_is is ∙ ap answer_of_run (same_runs (no_fault (one_outcome held file [] (Ok _) (Ok _) here there)) runs again) ∙ sym (ok_is also)
   answers task first second is also (ran here runs) (unloaded there) = absurd cc
   answers task first second is also (unloaded here) there = absurd cc
+  answers task first second is also (counted {exclude = exclude} here counts covers) (counted there again covered) =
+      ok_is is ∙ same_counted (same_sessions (no_fault (one_outcome held file exclude (Ok _) (Ok _) here there)) counts again) covers covered ∙ sym (ok_is also)
+  answers task first second is also (counted here counts covers) (uncounted there) = absurd cc
+  answers task first second is also (uncounted here) there = absurd cc
 
   pub one_answer : (task : SourceTask) (one other : Answer) → ComesTo file (Some held) task (Ok one) → ComesTo file (Some held) task (Ok other) → one ≡ other
   one_answer task one other here there = answers task one other refl refl here there

@@ -1,6 +1,8 @@
 pub mod Answered
 pub mod Due
 pub mod FailedReads
+pub mod FailedSources
+pub mod HandedOn
 pub mod Helped
 pub mod InstrumentJudged
 pub mod Judged

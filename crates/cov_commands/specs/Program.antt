@@ -7,6 +7,7 @@ use Rattle.cov_base.specs.Causes.{Rose}
 use Rattle.cov_words.specs.declared.command.Command.{Command}
 use Rattle.cov_words.specs.declared.command.Command.TheVariants.{Help, OnSource, Instrument, OnCoverage, OnV8}
 use Rattle.cov_words.specs.declared.command.CoverageTask.TheVariants.{Merge}
+use Rattle.cov_words.specs.declared.command.SourceTask.TheVariants.{Run}
 use Rattle.cov_commands.specs.Help as help
 use Rattle.cov_commands.specs.Source as source
 use Rattle.cov_commands.specs.Instrument as instrument
@@ -89,8 +90,9 @@ PrintsNothing other = ⊥
 
 -- ---- what the store holds
 
--- `instrument` puts texts below its folder, and `merge` and `v8` put their JSON at their path; all else leaves the store as it was
+-- `run`, `merge` and `v8` put their JSON at their path, and `instrument` puts texts below its folder; all else leaves the store as it was
 abbrev pub Stores : Option Command → Status → Option Held → Option Held → Type 0
+Stores (Some (OnSource (Run turns out exclude) file)) result before after = source.Puts result (Run turns out exclude) out file before after
 Stores (Some (Instrument out files)) result before after = instrument.Puts result out files before after
 Stores (Some (OnCoverage (Merge out) files)) result before after = coverage.Puts result out files before after
 Stores (Some (OnV8 out files)) result before after = v8.Puts result out files before after
@@ -98,6 +100,7 @@ Stores other result before after = after ≡ before
 
 -- and puts nothing, so that no put fails
 abbrev pub CountsPuts : Option Command → ℕ → ℕ → Type 0
+CountsPuts (Some (OnSource (Run turns out exclude) file)) before after = before ≤ after
 CountsPuts (Some (Instrument out files)) before after = before ≤ after
 CountsPuts (Some (OnCoverage (Merge out) files)) before after = before ≤ after
 CountsPuts (Some (OnV8 out files)) before after = before ≤ after

@@ -1,4 +1,5 @@
--- What is owed for a command on a source, which `maps` and `exec` are: when each status is due, what is printed, and what is said.
+-- What is owed for a command on a source, which `maps`, `exec` and `run` are: when each status is due, what is printed, what is
+-- put, and what is said.
 use Rattle.std.specs.Prelude.{◌≡◌, ℕ, List, [], ◌∷◌, ◌++◌, Option, None, Some, Result, Ok, Err, codes, if◌then◌else◌}
 use Rattle.js_tree.specs.declared.place.Pos.{Pos}
 use Rattle.js_tree.specs.Comments.{ignores_file}
@@ -12,20 +13,24 @@ use Rattle.js_parser.specs.declared.refused.Refusal.TheVariants as refusal
 use Rattle.js_meaning.specs.declared.outcome.End.{End}
 use Rattle.js_meaning.specs.declared.outcome.End.TheVariants as outcome
 use Rattle.js_meaning.specs.World.{PlainRun}
-use Rattle.cov_base.specs.Store.{Held}
+use Rattle.js_coverage.specs.Coverage.{IsCoverage}
+use Rattle.cov_base.specs.Store.{Held, BothTell, KeepsOthers}
 use Rattle.cov_base.specs.Sink.{after_more, TakesPrefix}
 use Rattle.cov_object.specs.Json.{json_text}
+use Rattle.cov_object.specs.declared.file.FileCoverage.{FileCoverage}
 use Rattle.cov_maps.specs.Zero.{zero_file}
 use Rattle.cov_sources.specs.declared.source.Source.{Source}
 use Rattle.cov_sources.specs.declared.why.Why.{Why}
 use Rattle.cov_sources.specs.declared.why.Why.TheVariants as why
 use Rattle.cov_words.specs.declared.command.SourceTask.{SourceTask}
-use Rattle.cov_words.specs.declared.command.SourceTask.TheVariants.{Maps, Exec}
+use Rattle.cov_words.specs.declared.command.SourceTask.TheVariants.{Maps, Exec, Run}
 use Rattle.cov_run.specs.Exec.{Runs}
 use Rattle.cov_run.specs.Loaded.{IsSource, IsUnread, Loaded}
+use Rattle.cov_run.specs.Session.{Counts}
 use Rattle.cov_run.specs.declared.fault.LoadFault.{LoadFault}
 use Rattle.cov_run.specs.declared.fault.LoadFault.TheVariants as fault
 use Rattle.cov_hash.specs.Hash.{hash_text}
+use Rattle.cov_commands.specs.Coverage.{json_line}
 use Rattle.cov_commands.specs.Line as said
 use Rattle.cov_commands.specs.declared.answer.Answer.{Answer}
 use Rattle.cov_commands.specs.declared.status.Status.{Status}
@@ -46,21 +51,28 @@ maps_text path bytes tree = if ignores_file (comments_of tree) then codes "{}" +
 
 -- the answer of `maps`
 abbrev pub answer_of_maps : List ℕ → List ℕ → File → Answer
-answer_of_maps path bytes tree = record { output = maps_text path bytes tree; end = outcome.Done }
+answer_of_maps path bytes tree = record { output = maps_text path bytes tree; end = outcome.Done; coverage = None }
 
 -- the answer of a run: what it printed, and how it ended
 abbrev pub answer_of_run : PlainRun → Answer
-answer_of_run run = record { output = run.store.output; end = run.end }
+answer_of_run run = record { output = run.store.output; end = run.end; coverage = None }
+
+-- that of a run that left this coverage
+abbrev pub answer_of_counted : PlainRun → List FileCoverage → Answer
+answer_of_counted run files = record { output = run.store.output; end = run.end; coverage = Some files }
 
 -- ---- what a task comes to; `told` is what the store holds, where it tells
 
--- a task on the file at a path: its answer, or why there is none. `maps` reads the file by itself, `exec` loads it with all that it
--- asks for.
+-- a task on the file at a path: its answer, or why there is none. `maps` reads the file by itself, `exec` and `run` load it with all that
+-- it asks for.
 pub data ComesTo (file : List ℕ) (told : Option Held) : SourceTask → Result Answer LoadFault → Type 0 where
   mapped : {bytes : List ℕ} {tree : File} → IsSource told file bytes tree → ComesTo file told Maps (Ok (answer_of_maps file bytes tree))
   unread : {why : LoadFault} → IsUnread told file why → ComesTo file told Maps (Err why)
   ran : {sources : List Source} {turns : ℕ} {run : PlainRun} → Loaded told file [] (Ok sources) → Runs sources file turns run → ComesTo file told (Exec turns) (Ok (answer_of_run run))
   unloaded : {turns : ℕ} {why : LoadFault} → Loaded told file [] (Err why) → ComesTo file told (Exec turns) (Err why)
+  counted : {sources : List Source} {turns : ℕ} {out : List ℕ} {exclude : List (List ℕ)} {run : PlainRun} {files : List FileCoverage} → Loaded told file exclude (Ok sources) →
+      Counts sources turns run → IsCoverage run.store.heap files → ComesTo file told (Run turns out exclude) (Ok (answer_of_counted run files))
+  uncounted : {turns : ℕ} {out : List ℕ} {exclude : List (List ℕ)} {why : LoadFault} → Loaded told file exclude (Err why) → ComesTo file told (Run turns out exclude) (Err why)
 
 -- ---- the line on standard error
 
@@ -92,6 +104,7 @@ message_of_fault file fault.Memory = said.OutOfMemory
 abbrev pub turns_of : SourceTask → ℕ
 turns_of Maps = 0
 turns_of (Exec turns) = turns
+turns_of (Run turns out exclude) = turns
 
 -- what is said of an end, which of Done is nothing
 abbrev pub said_of : SourceTask → End → Option said.Message
@@ -160,6 +173,28 @@ pub record PrintsOutput (result : Status) (task : SourceTask) (file : List ℕ) 
   pub comes : ComesTo file told task (Ok answer)
   pub ends : status_of_end answer.end ≡ result
   pub printed : after ≡ after_more before answer.output
+
+-- ---- what the store holds, where `run` puts the coverage at its path
+
+-- the JSON of what a run left that ends with the status stands there, and every other path holds what it held
+pub record PutsCoverage (result : Status) (task : SourceTask) (out file : List ℕ) (old new : Held) : Type 0 where
+  pub answer : Answer
+  pub files : List FileCoverage
+  pub comes : ComesTo file (Some old) task (Ok answer)
+  pub ends : status_of_end answer.end ≡ result
+  pub left : answer.coverage ≡ Some files
+  pub put : new out ≡ Some (json_line files)
+  pub others : KeepsOthers out old new
+
+-- it is put after the output was written, and with the other statuses nothing was put
+abbrev pub Puts : Status → SourceTask → List ℕ → List ℕ → Option Held → Option Held → Type 0
+Puts status.Ok task out file before after = BothTell before after (PutsCoverage status.Ok task out file)
+Puts status.Threw task out file before after = BothTell before after (PutsCoverage status.Threw task out file)
+Puts status.Range task out file before after = BothTell before after (PutsCoverage status.Range task out file)
+Puts status.Going task out file before after = BothTell before after (PutsCoverage status.Going task out file)
+Puts status.WriteFault task out file before after = BothTell before after (KeepsOthers out)
+Puts status.Memory task out file before after = BothTell before after (KeepsOthers out)
+Puts other task out file before after = after ≡ before
 
 -- ---- the line that is said
 

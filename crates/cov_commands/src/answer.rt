@@ -5,7 +5,9 @@ ghost use Rattle.cov_commands.specs.Source.{ComesTo};
 
 use crate::exec::exec;
 use crate::maps::maps;
+use crate::run::run;
 use cov_base::Store;
+use cov_object::CoverageMap;
 use cov_run::LoadFault;
 use cov_words::SourceTask;
 use items::Items;
@@ -19,16 +21,18 @@ pub struct Answer {
     pub output: Items<u8>,
     /// How it ended.
     pub end: End,
+    /// The coverage that is put, which only `run` has.
+    pub coverage: Option<CoverageMap>,
 }
 
 /// The answer to a task on the file at a path, or why there is none.
 pub(crate) fn answer_to<S: Store>(
     alloc: Global,
-    task: SourceTask,
+    task: &SourceTask,
     path: &str,
     store: &mut S,
 ) -> Result<Answer, LoadFault>
-    ensures comes { ComesTo path.now (S.held store.old) task result }
+    ensures comes { ComesTo path.now (S.held store.old) task.now result }
     ensures failed { (at : List ℕ) → result ≡ Err (ReadFault at) → (before : S) × S.fails before at store.new }
     ensures rose { (at : List ℕ) → result ≡ Err (ReadFault at) → Rose (S.read_faults store.old) (S.read_faults store.new) }
     ensures unchanged { S.held store.new ≡ S.held store.old }
@@ -36,6 +40,11 @@ pub(crate) fn answer_to<S: Store>(
 {
     match task {
         SourceTask::Maps => maps(alloc, path, store),
-        SourceTask::Exec { turns } => exec(alloc, turns, path, store),
+        SourceTask::Exec { turns } => exec(alloc, *turns, path, store),
+        SourceTask::Run {
+            turns,
+            out: _,
+            exclude,
+        } => run(alloc, *turns, exclude.as_slice(), path, store),
     }
 }

@@ -1,4 +1,4 @@
-ghost use Rattle.std.specs.Prelude.{◌≡◌, ℕ, List, Err, IfOk};
+ghost use Rattle.std.specs.Prelude.{◌≡◌, ℕ, List, None, Err, IfOk};
 ghost use Rattle.cov_base.specs.Causes.{Rose};
 ghost use Rattle.cov_run.specs.Exec.{AreRead, EndsAs, IsFirst};
 ghost use Rattle.cov_run.specs.declared.fault.LoadFault.TheVariants.{ReadFault};
@@ -38,8 +38,13 @@ pub(crate) fn exec<S: Store>(
 fn run_of(alloc: Global, path: &str, sources: &[Source], turns: u64) -> Result<Answer, Memory>
     requires first { IsFirst path.now sources.now }
     requires read { AreRead sources.now }
-    ensures { IfOk result (λ answer. EndsAs sources.now path.now turns answer.end answer.output) }
+    ensures ends { IfOk result (λ answer. EndsAs sources.now path.now turns answer.end answer.output) }
+    ensures none { IfOk result (λ answer. answer.coverage ≡ None) }
 {
     let Ran { end, output } = cov_run::exec(alloc, path, sources, turns)?;
-    Ok(Answer { output, end })
+    Ok(Answer {
+        output,
+        end,
+        coverage: None,
+    })
 }

@@ -69,6 +69,7 @@ pub(crate) fn maps<S: Store>(alloc: Global, path: &str, store: &mut S) -> Result
             Ok(printed) => Ok(Answer {
                 output: Items::from_vec(printed),
                 end: End::Done,
+                coverage: None,
             }),
             Err(_) => Err(LoadFault::Memory),
         },

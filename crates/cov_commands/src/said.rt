@@ -7,18 +7,23 @@ use cov_words::SourceTask;
 use js_meaning::End;
 
 /// The steps that a task allows: `maps` runs nothing.
-fn turns_of(task: SourceTask) -> u64
-    ensures { result ≡ spec.turns_of task }
+fn turns_of(task: &SourceTask) -> u64
+    ensures { result ≡ spec.turns_of task.now }
 {
     match task {
         SourceTask::Maps => 0,
-        SourceTask::Exec { turns } => turns,
+        SourceTask::Exec { turns } => *turns,
+        SourceTask::Run {
+            turns,
+            out: _,
+            exclude: _,
+        } => *turns,
     }
 }
 
 /// What is said of a task's end; nothing where it is done.
-pub(crate) fn said_of(task: SourceTask, end: &End) -> Option<Complaint<'_>>
-    ensures { option_map message_of result ≡ spec.said_of task end.now }
+pub(crate) fn said_of<'a>(task: &SourceTask, end: &'a End) -> Option<Complaint<'a>>
+    ensures { option_map message_of result ≡ spec.said_of task.now end.now }
 {
     match end {
         End::Done => None,

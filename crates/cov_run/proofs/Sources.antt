@@ -20,7 +20,7 @@ file_of exclude path bytes {tree = tree} good = (
   record { path = refl; accepted = good.accepted; only = good.only; counted = refl },
 )
 
-both_zip : {A B : Type 0} (R : A → B → Type 0) (xs : List A) (ys : List B) (x : A) (y : B) → AllZip R xs ys → R x y → AllZip R (xs ++ x ∷ []) (ys ++ y ∷ [])
+pub both_zip : {A B : Type 0} (R : A → B → Type 0) (xs : List A) (ys : List B) (x : A) (y : B) → AllZip R xs ys → R x y → AllZip R (xs ++ x ∷ []) (ys ++ y ∷ [])
 both_zip R [] [] x y zips is = (is, tt)
 both_zip R [] (b ∷ ys) x y zips is = absurd zips
 both_zip R (a ∷ xs) [] x y zips is = absurd zips
@@ -90,7 +90,7 @@ same_files (s ∷ sources) (f ∷ ones) [] here there = absurd there
 same_files (s ∷ sources) (f ∷ ones) (o ∷ others) here there =
     ap (λ x. x ∷ ones) (same_file s f o here.0 there.0) ∙ ap (λ rest. o ∷ rest) (same_files sources ones others here.1 there.1)
 
-some_is : {one other : PlainRun} → (◌≡◌) {A = Option PlainRun} (Some one) (Some other) → one ≡ other
+pub some_is : {one other : PlainRun} → (◌≡◌) {A = Option PlainRun} (Some one) (Some other) → one ≡ other
 some_is is = cc
 
 pub one_run : OneRun

@@ -1,11 +1,16 @@
 -- What holds of every loading and every run.
 use Rattle.std.specs.Prelude.{◌≡◌, ℕ, List, Option, Some, Result, Ok, Err}
 use Rattle.js_meaning.specs.World.{PlainRun}
+use Rattle.js_coverage.specs.Coverage.{IsCoverage}
+use Rattle.js_value.specs.State.{Heap}
+use Rattle.cov_object.specs.declared.file.FileCoverage.{FileCoverage}
+use Rattle.cov_sim.specs.Refused.{IsFirstRefused}
 use Rattle.cov_base.specs.Store.{Held}
 use Rattle.cov_sources.specs.declared.source.Source.{Source}
 use Rattle.cov_sources.specs.declared.why.Why.{Why}
 use Rattle.cov_run.specs.Exec.{AreRead, IsFirst, Runs}
 use Rattle.cov_run.specs.Loaded.{IsNoSource, Loaded}
+use Rattle.cov_run.specs.Session.{Counts}
 use Rattle.cov_run.specs.declared.fault.LoadFault.{LoadFault}
 use Rattle.cov_run.specs.declared.fault.LoadFault.TheVariants as fault
 
@@ -36,6 +41,18 @@ AllAreRead = (told : Option Held) (entry : List ℕ) (exclude : List (List ℕ))
 -- sources have one run
 abbrev pub OneRun : Type 0
 OneRun = (sources : List Source) (path : List ℕ) (turns : ℕ) (one other : PlainRun) → Runs sources path turns one → Runs sources path turns other → one ≡ other
+
+-- so have sources that count their own coverage, and a heap holds one coverage at most
+abbrev pub OneSession : Type 0
+OneSession = (sources : List Source) (steps : ℕ) (one other : PlainRun) → Counts sources steps one → Counts sources steps other → one ≡ other
+
+abbrev pub OneCoverage : Type 0
+OneCoverage = (heap : Heap) (one other : List FileCoverage) → IsCoverage heap one → IsCoverage heap other → one ≡ other
+
+-- none of the sources that are loaded is refused
+abbrev pub RefusesNone : Type 0
+RefusesNone = (told : Option Held) (entry : List ℕ) (exclude : List (List ℕ)) (sources : List Source) → Loaded told entry exclude (Ok sources) →
+    (path : List ℕ) (because : Why) → IsFirstRefused sources path because → ⊥
 
 -- a text that is refused is no source, for the cause that is told
 abbrev pub RefusesNoSource : Type 0

@@ -3,3 +3,4 @@ pub mod Exec
 pub mod Laws
 pub mod Loaded
 pub mod private
+pub mod Session

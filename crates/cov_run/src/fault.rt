@@ -58,3 +58,44 @@ impl<T: Drop> From<AllocFailed<T>> for LoadFault {
         LoadFault::Memory
     }
 }
+
+/// Why a session has no end.
+#[derive(Debug, Drop, Error)]
+pub enum SessionFault {
+    /// The file at this path is no source: the first of the list.
+    #[error("refused: {}", .path.as_str())]
+    Refused {
+        /// The path.
+        path: Text,
+        /// Why it is none.
+        why: Why,
+    },
+    /// The run left no coverage.
+    #[error("no coverage")]
+    NotCoverage,
+    /// Want of memory.
+    #[error("out of memory")]
+    Memory,
+}
+
+impl From<AllocError> for SessionFault {
+    ghost use Rattle.std.specs.Prelude.{◌≡◌};
+    ghost use Rattle.cov_run.specs.declared.fault.SessionFault.TheVariants as fault;
+
+    ghost from_gives = { λ _ given. given ≡ fault.Memory };
+
+    fn from(_want: AllocError) -> SessionFault {
+        SessionFault::Memory
+    }
+}
+
+impl<T: Drop> From<AllocFailed<T>> for SessionFault {
+    ghost use Rattle.std.specs.Prelude.{◌≡◌};
+    ghost use Rattle.cov_run.specs.declared.fault.SessionFault.TheVariants as fault;
+
+    ghost from_gives = { λ _ given. given ≡ fault.Memory };
+
+    fn from(_want: AllocFailed<T>) -> SessionFault {
+        SessionFault::Memory
+    }
+}

@@ -1,4 +1,4 @@
-ghost use Rattle.cov_run.specs.Laws.{AllAreRead, BeginsWithEntry, OneOutcome, OneRun, RefusesNoSource};
+ghost use Rattle.cov_run.specs.Laws.{AllAreRead, BeginsWithEntry, OneCoverage, OneOutcome, OneRun, OneSession, RefusesNone, RefusesNoSource};
 
 /// What holds of every loading and every run.
 pub fn programs()
@@ -6,5 +6,8 @@ pub fn programs()
     ensures begins { BeginsWithEntry }
     ensures all_are_read { AllAreRead }
     ensures one_run { OneRun }
+    ensures one_session { OneSession }
+    ensures one_coverage { OneCoverage }
+    ensures refuses_none { RefusesNone }
     ensures refuses { RefusesNoSource }
 {}

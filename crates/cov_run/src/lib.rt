@@ -1,4 +1,4 @@
-//! Programs: the files that one is loaded from, and runs of such programs.
+//! Programs: the files that one is loaded from, runs of such programs, and runs that count what they enter.
 #![tactic(auto)]
 
 mod fault;
@@ -7,9 +7,11 @@ mod loader;
 mod queue;
 mod reading;
 mod run;
+mod sessions;
 
-pub use fault::LoadFault;
+pub use fault::{LoadFault, SessionFault};
 pub use laws::programs;
 pub use loader::load;
 pub use reading::read_source;
 pub use run::{Ran, exec};
+pub use sessions::{SessionEnd, session};

@@ -1,4 +1,5 @@
 pub mod Hexadecimal
 pub mod Lists
 pub mod Named
+pub mod ReadAgain
 pub mod Spelt

@@ -1,4 +1,5 @@
 pub mod Again
+pub mod Counting
 pub mod Instrumented
 pub mod Laws
 pub mod Refused

@@ -90,7 +90,7 @@ fn add(
 }
 
 // Whether a source isn't counted, or a comment takes it out.
-fn is_left(source: &Source, file: &File) -> bool
+pub(crate) fn is_left(source: &Source, file: &File) -> bool
     ensures { result ≡ is_left_out source.now (plain_file file.now) }
 {
     !source.counted || ignores_file(file)
@@ -110,7 +110,7 @@ pub fn text_for(alloc: Global, source: &Source, file: Checked) -> Result<Option<
 }
 
 // The text of a source that is counted.
-fn text_of(alloc: Global, source: &Source, file: Checked) -> Result<Text, Memory>
+pub(crate) fn text_of(alloc: Global, source: &Source, file: Checked) -> Result<Text, Memory>
     requires { Accepted source.now.bytes (plain_file file) }
     ensures text { IfOk result (λ text. text ≡ layout (instrumented source.now.path source.now.bytes (plain_file file))) }
     ensures again { IfOk result (λ text. IsReadAgain text (instrumented source.now.path source.now.bytes (plain_file file))) }

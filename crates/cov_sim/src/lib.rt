@@ -1,11 +1,13 @@
 //! The texts that the source files of a program become whose coverage is counted.
 #![tactic(auto)]
 
+mod counting;
 mod fault;
 mod instrumented;
 mod instrumenting;
 mod laws;
 
+pub use counting::counting_tree;
 pub use cov_sources::{Source, Sources, Why, accept};
 pub use fault::InstrumentFault;
 pub use instrumented::Instrumented;

@@ -14,9 +14,10 @@ use std::alloc::Global;
 /// Does all that the program does: takes the words after the program's name, reads from the store,
 /// prints to `out`, complains on `err`, and gives the exit status.
 ///
-/// Two commands are on a source file: `maps FILE` prints its zero FileCoverage as Istanbul's JSON has
+/// Three commands are on a source file: `maps FILE` prints its zero FileCoverage as Istanbul's JSON has
 /// it, and LF; `exec [--turns N] FILE` runs it and prints what it prints, and where the run ends
-/// otherwise than done, that is said after it. `instrument --out DIR FILE..` is on source files: it
+/// otherwise than done, that is said after it; `run [--turns N] [--out P] [--exclude GLOBS] ENTRY` does
+/// the same by the instrumented texts, and puts the JSON of the coverage and LF at P. `instrument --out DIR FILE..` is on source files: it
 /// puts the instrumented text of each below DIR. Three are on coverage files, which are read and merged
 /// one after another: `merge --out P FILE..` puts their JSON and LF at P, `report [--reporter R]
 /// FILE..` prints a report, and `check [--lines N] [--statements N] [--branches N] [--functions N]
@@ -66,7 +67,7 @@ pub fn cov<S: Store, O: Sink, E: Sink>(
         None => complain(alloc, &Complaint::Usage, err),
         Some(Command::Help) => on_help(alloc, out, err),
         Some(Command::OnSource { task, file }) => {
-            on_source(alloc, *task, file.as_str(), store, out, err)
+            on_source(alloc, task, file.as_str(), store, out, err)
         }
         Some(Command::Instrument { out: path, files }) => {
             on_instrument(alloc, path.as_str(), files.as_slice(), store, err)

@@ -10,7 +10,7 @@ use Rattle.clap.proofs.OnLiterals.{clap_on_literals}
 use Rattle.clap.proofs.ValueTestLemmas.{accepts-Accepts}
 use Rattle.path_globs.specs.Source.{source_path}
 use Rattle.cov_words.specs.declared.command.Command.TheVariants.{Instrument}
-use Rattle.cov_words.specs.Laws.{IsPlain, MapsFile, ExecFile, ExecTurns, NoTurns, OneFile, InstrumentFile, MergeFile, ReportFile, CheckFiles, V8File, OtherName}
+use Rattle.cov_words.specs.Laws.{IsPlain, MapsFile, ExecFile, ExecTurns, NoTurns, OneFile, RunFile, RunExcluding, InstrumentFile, MergeFile, ReportFile, CheckFiles, V8File, OtherName}
 use Rattle.cov_words.specs.Words.{command_of, is_help, max_turns}
 use Rattle.cov_words.proofs.WordsLemmas.{is_number}
 
@@ -78,6 +78,15 @@ pub one_file : OneFile
 one_file name first second (inl e) plain other = subst (λ n. command_of (n ∷ first ∷ second ∷ []) ≡ None) (sym e) (of_maps first second plain other)
 one_file name first second (inr e) plain other = subst (λ n. command_of (n ∷ first ∷ second ∷ []) ≡ None) (sym e) (of_exec first second plain other)
 
+pub run_file : RunFile
+unfolding clap_on_literals
+run_file file plain = rw (no_dashes file plain, no_dash file plain, no_dash file plain) refl
+
+pub run_excluding : RunExcluding
+unfolding clap_on_literals
+run_excluding globs file plain other =
+    rw (no_dashes globs plain, no_dash globs plain, no_dash globs plain, no_dashes file other, no_dash file other, no_dash file other) refl
+
 pub instrument_file : InstrumentFile
 unfolding clap_on_literals
 instrument_file out file plain other some =
@@ -108,5 +117,5 @@ v8_file out file plain other some =
 
 pub other_name : OtherName
 unfolding clap_on_literals
-other_name name words plain no_maps no_exec no_instrument no_merge no_report no_check no_v8 =
-    rw (no_help name words plain, no_maps, no_exec, no_instrument, no_merge, no_report, no_check, no_v8, no_dashes name plain, no_dash name plain, no_dash name plain) refl
+other_name name words plain no_maps no_exec no_instrument no_merge no_report no_check no_v8 no_run =
+    rw (no_help name words plain, no_maps, no_exec, no_instrument, no_run, no_merge, no_report, no_check, no_v8, no_dashes name plain, no_dash name plain, no_dash name plain) refl

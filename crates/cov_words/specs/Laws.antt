@@ -6,10 +6,10 @@ use Rattle.std.specs.Str.Parse.{digits_value, without_leading_plus}
 use Rattle.clap.specs.ValueTests.{is_unsigned_in}
 use Rattle.path_globs.specs.Source.{source_path}
 use Rattle.cov_words.specs.declared.command.Command.TheVariants.{OnSource, Instrument, OnCoverage, OnV8}
-use Rattle.cov_words.specs.declared.command.SourceTask.TheVariants.{Maps, Exec}
+use Rattle.cov_words.specs.declared.command.SourceTask.TheVariants.{Maps, Exec, Run}
 use Rattle.cov_words.specs.declared.command.CoverageTask.TheVariants.{Merge, Report, Check}
 use Rattle.cov_words.specs.declared.command.Reporter.TheVariants as reporter
-use Rattle.cov_words.specs.Words.{command_of, max_turns}
+use Rattle.cov_words.specs.Words.{command_of, max_turns, patterns_of}
 
 -- a word that doesn't begin with `-`
 abbrev pub IsPlain : List ℕ → Type 0
@@ -38,6 +38,14 @@ abbrev pub OneFile : Type 0
 OneFile = (name first second : List ℕ) → (name ≡ codes "maps") ⊎ (name ≡ codes "exec") → IsPlain first → IsPlain second →
     command_of (name ∷ first ∷ second ∷ []) ≡ None
 
+-- `run ENTRY`, and `run --exclude GLOBS ENTRY`
+abbrev pub RunFile : Type 0
+RunFile = (file : List ℕ) → IsPlain file → command_of (codes "run" ∷ file ∷ []) ≡ option_map (OnSource (Run 1000000 (codes "coverage.json") [])) (source_path file)
+
+abbrev pub RunExcluding : Type 0
+RunExcluding = (globs file : List ℕ) → IsPlain globs → IsPlain file →
+    command_of (codes "run" ∷ codes "--exclude" ∷ globs ∷ file ∷ []) ≡ option_map (OnSource (Run 1000000 (codes "coverage.json") (patterns_of globs))) (source_path file)
+
 -- `instrument --out DIR FILE`, where DIR is not empty
 abbrev pub InstrumentFile : Type 0
 InstrumentFile = (out file : List ℕ) → IsPlain out → IsPlain file → bytes_eq out [] ≡ false →
@@ -62,8 +70,8 @@ abbrev pub V8File : Type 0
 V8File = (out file : List ℕ) → IsPlain out → IsPlain file → bytes_eq out [] ≡ false →
     command_of (codes "v8" ∷ codes "--out" ∷ out ∷ file ∷ []) ≡ Some (OnV8 out (file ∷ []))
 
--- another name than those of the seven commands, whatever follows it
+-- another name than those of the eight commands, whatever follows it
 abbrev pub OtherName : Type 0
 OtherName = (name : List ℕ) (words : List (List ℕ)) → IsPlain name → bytes_eq (codes "maps") name ≡ false → bytes_eq (codes "exec") name ≡ false →
     bytes_eq (codes "instrument") name ≡ false → bytes_eq (codes "merge") name ≡ false → bytes_eq (codes "report") name ≡ false → bytes_eq (codes "check") name ≡ false → bytes_eq (codes "v8") name ≡ false →
-    command_of (name ∷ words) ≡ None
+    bytes_eq (codes "run") name ≡ false → command_of (name ∷ words) ≡ None

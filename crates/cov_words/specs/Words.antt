@@ -3,14 +3,15 @@
 --     maps FILE
 --     exec [--turns N] FILE
 --     instrument --out DIR FILE..
+--     run [--turns N] [--out P] [--exclude GLOBS] ENTRY
 --     merge --out P FILE..
 --     report [--reporter R] FILE..
 --     check [--lines N] [--statements N] [--branches N] [--functions N] FILE..
 --     v8 --out P FILE..
 -- `--help` stands alone. All others are read as the kit's clap says: a form is clap's data, `fault_of` says of a form and words what is wrong with them,
 -- and `subcommand_of` the command that they name and what it finds for each of its arguments.
-use Rattle.std.specs.Prelude.{ℕ, Bool, true, false, List, [], ◌∷◌, ◌++◌, Option, Some, None, option_map, option_and_then, if◌then◌else◌, nat_le, codes}
-use Rattle.std.specs.List.{list_any}
+use Rattle.std.specs.Prelude.{ℕ, ◌==◌, Bool, true, false, List, [], ◌∷◌, ◌++◌, Option, Some, None, option_map, option_and_then, if◌then◌else◌, nat_le, codes}
+use Rattle.std.specs.List.{list_any, slice_split}
 use Rattle.std.specs.Str.{bytes_eq}
 use Rattle.std.specs.Str.Parse.{digits_value, without_leading_plus}
 use Rattle.clap.specs.Lexer.{usize_max}
@@ -23,7 +24,7 @@ use Rattle.cov_summary.specs.declared.shortfall.Thresholds.{Thresholds}
 use Rattle.cov_words.specs.declared.command.Command.{Command}
 use Rattle.cov_words.specs.declared.command.Command.TheVariants.{Help, OnSource, Instrument, OnCoverage, OnV8}
 use Rattle.cov_words.specs.declared.command.SourceTask.{SourceTask}
-use Rattle.cov_words.specs.declared.command.SourceTask.TheVariants.{Maps, Exec}
+use Rattle.cov_words.specs.declared.command.SourceTask.TheVariants.{Maps, Exec, Run}
 use Rattle.cov_words.specs.declared.command.CoverageTask.{CoverageTask}
 use Rattle.cov_words.specs.declared.command.CoverageTask.TheVariants.{Merge, Report, Check}
 use Rattle.cov_words.specs.declared.command.Reporter.{Reporter}
@@ -59,6 +60,14 @@ turns_rule = record (option_rule (codes "turns")) {
 abbrev pub out_rule : Rule
 out_rule = record (option_rule (codes "out")) { required = true }
 
+-- `--out P` of `run`, by default `coverage.json`
+abbrev pub coverage_rule : Rule
+coverage_rule = record (option_rule (codes "out")) { defaults = codes "coverage.json" ∷ [] }
+
+-- `--exclude GLOBS`
+abbrev pub exclude_rule : Rule
+exclude_rule = option_rule (codes "exclude")
+
 -- `--reporter R`, by default `text`
 abbrev pub reporter_rule : Rule
 reporter_rule = record (option_rule (codes "reporter")) { defaults = codes "text" ∷ [] }
@@ -75,6 +84,9 @@ exec_form = with_rule (with_rule (new_app (codes "exec")) turns_rule) file_rule
 
 abbrev pub instrument_form : App
 instrument_form = with_rule (with_rule (new_app (codes "instrument")) out_rule) files_rule
+
+abbrev pub run_form : App
+run_form = with_rule (with_rule (with_rule (with_rule (new_app (codes "run")) turns_rule) coverage_rule) exclude_rule) file_rule
 
 abbrev pub merge_form : App
 merge_form = with_rule (with_rule (new_app (codes "merge")) out_rule) files_rule
@@ -97,8 +109,11 @@ v8_form = with_rule (with_rule (new_app (codes "v8")) out_rule) files_rule
 abbrev pub bare : Shape → Shape
 bare form = record form { no_binary_name = true; disable_help_flag = true; disable_help_subcommand = true }
 
+abbrev pub with_reading_forms : App → App
+with_reading_forms form = with_subcommand (with_subcommand form maps_form.top) exec_form.top
+
 abbrev pub with_source_forms : App → App
-with_source_forms form = with_subcommand (with_subcommand (with_subcommand form maps_form.top) exec_form.top) instrument_form.top
+with_source_forms form = with_subcommand (with_subcommand (with_reading_forms form) instrument_form.top) run_form.top
 
 abbrev pub source_forms : App
 source_forms = with_source_forms (on_top bare (new_app (codes "cov")))
@@ -146,16 +161,27 @@ number_in text = if is_unsigned_in 0 18446744073709551615 text then Some (digits
 abbrev pub number_found : Text → List Row → Option ℕ
 number_found name rows = option_and_then number_in (one_of name rows)
 
--- the turns of `exec`: those of its words, or by default
+-- the turns of `exec` and `run`: those of the words, or by default
 abbrev pub turns_in : List Row → Option ℕ
 turns_in rows = number_found (codes "turns") rows
 
--- the path of `instrument`, `merge` and `v8`, which is not empty
+-- the path of `instrument`, `run`, `merge` and `v8`, which is not empty
 abbrev pub if_path : Text → Option Text
 if_path word = if bytes_eq word [] then None else Some word
 
 abbrev pub out_in : List Row → Option (List ℕ)
 out_in rows = option_and_then if_path (first_of (codes "out") rows)
+
+-- the patterns of `run`, which commas join; none where there is no such word
+abbrev pub patterns_of : Text → List (List ℕ)
+patterns_of word = slice_split (λ byte. byte == 44) word
+
+abbrev pub patterns_in : Option Text → List (List ℕ)
+patterns_in None = []
+patterns_in (Some word) = patterns_of word
+
+abbrev pub exclude_in : List Row → List (List ℕ)
+exclude_in rows = patterns_in (first_of (codes "exclude") rows)
 
 -- the report of this name
 abbrev pub reporter_of : Text → Option Reporter
@@ -187,6 +213,9 @@ thresholds_in rows = record {
 -- what each command is to do
 abbrev pub exec_in : List Row → Option SourceTask
 exec_in rows = option_map Exec (turns_in rows)
+
+abbrev pub run_in : List Row → Option SourceTask
+run_in rows = option_and_then (λ turns. option_map (λ out. Run turns out (exclude_in rows)) (out_in rows)) (turns_in rows)
 
 abbrev pub merge_in : List Row → Option CoverageTask
 merge_in rows = option_map Merge (out_in rows)
@@ -223,8 +252,9 @@ request_in (name, rows) =
     if bytes_eq name (codes "maps") then on_source (Some Maps) rows
     else (if bytes_eq name (codes "exec") then on_source (exec_in rows) rows
     else (if bytes_eq name (codes "instrument") then instrument_in rows
+    else (if bytes_eq name (codes "run") then on_source (run_in rows) rows
     else (if bytes_eq name (codes "v8") then on_v8 rows
-    else on_coverage (coverage_task name rows) rows)))
+    else on_coverage (coverage_task name rows) rows))))
 
 -- the command that the words name, where nothing is wrong with them
 abbrev pub found_in : List Text → Option (Text × List Row)

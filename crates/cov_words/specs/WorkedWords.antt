@@ -65,6 +65,23 @@ instrument_rows =
 abbrev pub Instruments : Type 0
 Instruments = Asks instrument_rows
 
+-- `run`, whose turns, P and patterns have defaults; commas join patterns
+abbrev pub run : ℕ → List ℕ → List (List ℕ) → List ℕ → Option Command
+run turns out exclude file = Some (OnSource (task.Run turns out exclude) file)
+
+abbrev pub run_rows : List (List (List ℕ) × Option Command)
+run_rows =
+    (codes "run" ∷ codes "a.js" ∷ [], run 1000000 (codes "coverage.json") [] (codes "a.js")) ∷
+    (codes "run" ∷ codes "--turns" ∷ codes "0" ∷ codes "./x/../a.js" ∷ [], run 0 (codes "coverage.json") [] (codes "a.js")) ∷
+    (codes "run" ∷ codes "a.js" ∷ codes "--out=d/c.json" ∷ codes "--turns=9007199254740991" ∷ [], run 9007199254740991 (codes "d/c.json") [] (codes "a.js")) ∷
+    (codes "run" ∷ codes "--exclude" ∷ codes "b.js" ∷ codes "a.js" ∷ [], run 1000000 (codes "coverage.json") (codes "b.js" ∷ []) (codes "a.js")) ∷
+    (codes "run" ∷ codes "--exclude=b.js,lib/**" ∷ codes "a.js" ∷ [], run 1000000 (codes "coverage.json") (codes "b.js" ∷ codes "lib/**" ∷ []) (codes "a.js")) ∷
+    (codes "run" ∷ codes "--exclude=,b,," ∷ codes "--" ∷ codes "-a.js" ∷ [], run 1000000 (codes "coverage.json") ([] ∷ codes "b" ∷ [] ∷ [] ∷ []) (codes "-a.js")) ∷
+    []
+
+abbrev pub Runs : Type 0
+Runs = Asks run_rows
+
 -- `merge`, which needs P and one FILE or more, in any order
 abbrev pub merge : List ℕ → List (List ℕ) → Option Command
 merge out files = Some (OnCoverage (Merge out) files)
@@ -177,6 +194,14 @@ unread =
     (codes "instrument" ∷ codes "--out" ∷ codes "d" ∷ codes "a.js" ∷ codes "../b.js" ∷ []) ∷
     (codes "instrument" ∷ codes "--out" ∷ codes "d" ∷ codes "--out" ∷ codes "e" ∷ codes "a.js" ∷ []) ∷
     (codes "instrument" ∷ codes "--turns" ∷ codes "1" ∷ codes "--out" ∷ codes "d" ∷ codes "a.js" ∷ []) ∷
+    (codes "run" ∷ []) ∷
+    (codes "run" ∷ codes "a.json" ∷ []) ∷
+    (codes "run" ∷ codes "../a.js" ∷ []) ∷
+    (codes "run" ∷ codes "a.js" ∷ codes "b.js" ∷ []) ∷
+    (codes "run" ∷ codes "--out=" ∷ codes "a.js" ∷ []) ∷
+    (codes "run" ∷ codes "--turns" ∷ codes "9007199254740992" ∷ codes "a.js" ∷ []) ∷
+    (codes "run" ∷ codes "--exclude" ∷ codes "a" ∷ codes "--exclude" ∷ codes "b" ∷ codes "a.js" ∷ []) ∷
+    (codes "run" ∷ codes "a.js" ∷ codes "--exclude" ∷ []) ∷
     (codes "merge" ∷ codes "a.json" ∷ []) ∷
     (codes "merge" ∷ codes "--out" ∷ codes "p" ∷ []) ∷
     (codes "merge" ∷ codes "--out=" ∷ codes "a.json" ∷ []) ∷

@@ -88,6 +88,27 @@ fn path_of(alloc: Global, word: &str) -> Result<Option<Text>, Memory>
     }
 }
 
+/// The patterns found for `--exclude`.
+pub(crate) fn exclude_in(alloc: Global, own: &ArgMatches<'_>) -> Result<Items<Text>, Memory>
+    ensures { IfOk result (λ patterns. patterns ≡ spec.exclude_in (rows_of (found_of own.now))) }
+{
+    match word_in(own, "exclude") {
+        Some(word) => patterns_of(alloc, word),
+        None => Ok(Items::new(alloc)),
+    }
+}
+
+/// The patterns that commas join to this word.
+fn patterns_of(alloc: Global, word: &str) -> Result<Items<Text>, Memory>
+    ensures { IfOk result (λ patterns. patterns ≡ spec.patterns_of word.now) }
+{
+    let mut patterns = Items::new(alloc);
+    for pattern in word.split(',') {
+        patterns.push(Text::from_str(alloc, pattern)?)?;
+    }
+    Ok(patterns)
+}
+
 /// The report that was found to be asked for.
 pub(crate) fn reporter_in(own: &ArgMatches<'_>) -> Option<Reporter>
     ensures { result ≡ spec.reporter_in (rows_of (found_of own.now)) }

@@ -31,12 +31,21 @@ pub enum Command {
 }
 
 /// What is done with a source file.
-#[derive(Clone, Copy, Debug, PartialEq, Eq)]
+#[derive(Debug, Drop)]
 pub enum SourceTask {
     /// Its map is written.
     Maps,
     /// It is run, for so many turns at most.
-    Exec { turns: u64 },
+    Exec {
+        turns: u64,
+    },
+    /// The same, and its coverage is put at a path, which isn't empty. What one of these patterns
+    /// stands for isn't counted.
+    Run {
+        turns: u64,
+        out: Text,
+        exclude: Items<Text>,
+    },
 }
 
 /// What is done with coverage files, once they are merged.

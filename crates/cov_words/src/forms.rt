@@ -23,6 +23,17 @@ pub(crate) fn exec<'a>(alloc: Global) -> Result<Command<'a>, Memory>
         .arg(file(alloc))
 }
 
+/// The form of `run`.
+pub(crate) fn run<'a>(alloc: Global) -> Result<Command<'a>, Memory>
+    ensures { IfOk result (λ form. (app_of form ≡ spec.run_form) × ((fields_of form).has_globals ≡ false)) }
+{
+    Command::new(alloc, "run")
+        .arg(turns(alloc))?
+        .arg(coverage(alloc))?
+        .arg(exclude(alloc))?
+        .arg(file(alloc))
+}
+
 /// The form of `instrument`.
 pub(crate) fn instrument<'a>(alloc: Global) -> Result<Command<'a>, Memory>
     ensures { IfOk result (λ form. (app_of form ≡ spec.instrument_form) × ((fields_of form).has_globals ≡ false)) }
@@ -116,6 +127,22 @@ fn out<'a>(alloc: Global) -> Arg<'a>
     ensures { (rule_of result ≡ spec.out_rule) × (result.global ≡ false) }
 {
     Arg::new(alloc, "out").long("out").required(true)
+}
+
+/// The option `--out P`, by default `coverage.json`.
+fn coverage<'a>(alloc: Global) -> Arg<'a>
+    ensures { (rule_of result ≡ spec.coverage_rule) × (result.global ≡ false) }
+{
+    Arg::new(alloc, "out")
+        .long("out")
+        .default_value("coverage.json")
+}
+
+/// The option `--exclude GLOBS`.
+fn exclude<'a>(alloc: Global) -> Arg<'a>
+    ensures { (rule_of result ≡ spec.exclude_rule) × (result.global ≡ false) }
+{
+    Arg::new(alloc, "exclude").long("exclude")
 }
 
 /// The option `--reporter R`, by default `text`.

@@ -1,4 +1,4 @@
-ghost use Rattle.cov_words.specs.Laws.{MapsFile, ExecFile, ExecTurns, NoTurns, OneFile, InstrumentFile, MergeFile, ReportFile, CheckFiles, V8File, OtherName};
+ghost use Rattle.cov_words.specs.Laws.{MapsFile, ExecFile, ExecTurns, NoTurns, OneFile, RunFile, RunExcluding, InstrumentFile, MergeFile, ReportFile, CheckFiles, V8File, OtherName};
 
 /// What the plain forms ask, for any words.
 pub fn plain_words()
@@ -7,6 +7,8 @@ pub fn plain_words()
     ensures exec_turns { ExecTurns }
     ensures no_turns { NoTurns }
     ensures one_file { OneFile }
+    ensures run_file { RunFile }
+    ensures run_excluding { RunExcluding }
     ensures instrument_file { InstrumentFile }
     ensures merge_file { MergeFile }
     ensures report_file { ReportFile }

@@ -1,4 +1,4 @@
-ghost use Rattle.cov_words.specs.WorkedWords.{HelpAlone, Maps, Exec, Instruments, Merges, Reports, Checks, V8s, NoReading};
+ghost use Rattle.cov_words.specs.WorkedWords.{HelpAlone, Maps, Exec, Instruments, Runs, Merges, Reports, Checks, V8s, NoReading};
 
 /// What words ask for by the definition, worked out: it computes.
 pub fn worked_words()
@@ -6,6 +6,7 @@ pub fn worked_words()
     ensures maps { Maps }
     ensures exec { Exec }
     ensures instruments { Instruments }
+    ensures runs { Runs }
     ensures merges { Merges }
     ensures reports { Reports }
     ensures checks { Checks }

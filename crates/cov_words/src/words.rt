@@ -3,8 +3,10 @@ ghost use Rattle.clap.specs.Words.{app_of, found_of, rows_of, rule_of, subcomman
 ghost use Rattle.clap.specs.declared.builder.command.Command.TheViews.{out-Command as fields_of};
 ghost use Rattle.cov_words.specs.Words as spec;
 
-use crate::arguments::{file_in, files_in, out_in, reporter_in, thresholds_in, turns_in};
-use crate::forms::{check, exec, instrument, maps, merge, report, v8};
+use crate::arguments::{
+    exclude_in, file_in, files_in, out_in, reporter_in, thresholds_in, turns_in,
+};
+use crate::forms::{check, exec, instrument, maps, merge, report, run, v8};
 use crate::sources::sources_in;
 use crate::{Command, CoverageTask, SourceTask};
 use clap::ArgMatches;
@@ -82,9 +84,19 @@ fn with_source_forms<'a>(
 ) -> Result<clap::Command<'a>, Memory>
     ensures { IfOk result (λ all. app_of all ≡ spec.with_source_forms (app_of form.entry)) }
 {
-    form.subcommand(maps(alloc)?)?
-        .subcommand(exec(alloc)?)?
-        .subcommand(instrument(alloc)?)
+    with_reading_forms(alloc, form)?
+        .subcommand(instrument(alloc)?)?
+        .subcommand(run(alloc)?)
+}
+
+/// This form, and those of the commands on sources that put nothing.
+fn with_reading_forms<'a>(
+    alloc: Global,
+    form: clap::Command<'a>,
+) -> Result<clap::Command<'a>, Memory>
+    ensures { IfOk result (λ all. app_of all ≡ spec.with_reading_forms (app_of form.entry)) }
+{
+    form.subcommand(maps(alloc)?)?.subcommand(exec(alloc)?)
 }
 
 /// These forms, and those of the commands on coverage files.
@@ -110,6 +122,7 @@ fn request_in(alloc: Global, matches: &ArgMatches<'_>) -> Result<Option<Command>
         "maps" => on_source(alloc, Some(SourceTask::Maps), own),
         "exec" => on_source(alloc, exec_in(own), own),
         "instrument" => instrument_in(alloc, own),
+        "run" => on_source(alloc, run_in(alloc, own)?, own),
         "v8" => on_v8(alloc, own),
         _ => on_coverage(alloc, coverage_task(alloc, name, own)?, own),
     }
@@ -183,6 +196,24 @@ fn exec_in(own: &ArgMatches<'_>) -> Option<SourceTask>
         Some(turns) => Some(SourceTask::Exec { turns }),
         None => None,
     }
+}
+
+/// What `run` is to do.
+fn run_in(alloc: Global, own: &ArgMatches<'_>) -> Result<Option<SourceTask>, Memory>
+    ensures { IfOk result (λ task. task ≡ spec.run_in (rows_of (found_of own.now))) }
+{
+    let Some(turns) = turns_in(own) else {
+        return Ok(None);
+    };
+    let Some(out) = out_in(alloc, own)? else {
+        return Ok(None);
+    };
+    let exclude = exclude_in(alloc, own)?;
+    Ok(Some(SourceTask::Run {
+        turns,
+        out,
+        exclude,
+    }))
 }
 
 /// What is to be done with coverage files, by the command's name.

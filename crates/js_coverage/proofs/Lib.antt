@@ -1,2 +1,2 @@
 mod CoverageWorked
-mod Levels
+pub mod Levels

@@ -17,7 +17,7 @@ run_of-requires-clause-read g c = subst AreRead (sym c.as_slice.ensures.value) (
 pub returns-in-Ok-run_of-clause-comes : goal.returns-in-Ok-run_of-clause-comes
 returns-in-Ok-run_of-clause-comes g c =
     exec_answer c.args.path.now (g.S.Store.held c.args.store.now) c.in-Ok.ensures.sources
-    (subst (λ s. EndsAs s c.args.path.now c.args.turns c.in-Ok-run_of.answer.end c.in-Ok-run_of.answer.output) c.as_slice.ensures.value c.in-Ok-run_of.ensures)
+    (subst (λ s. EndsAs s c.args.path.now c.args.turns c.in-Ok-run_of.answer.end c.in-Ok-run_of.answer.output) c.as_slice.ensures.value c.in-Ok-run_of.ensures.ends) c.in-Ok-run_of.ensures.none
 
 pub returns-in-Ok-clause-comes : goal.returns-in-Ok-clause-comes
 returns-in-Ok-clause-comes g c = wants c.args.path.now (g.S.Store.held c.args.store.now) (Exec c.args.turns)

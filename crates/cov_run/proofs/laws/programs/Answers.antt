@@ -1,5 +1,6 @@
 use Rattle.cov_run.proofs.Sources.{all_are_read, begins_with_entry, one_run}
 use Rattle.cov_run.proofs.Outcomes.{one_outcome, refuses}
+use Rattle.cov_run.proofs.OneSession.{one_coverage, one_session, refuses_none}
 use Rattle.cov_run.proofs.laws.programs.Goals as goal
 
 pub returns-clause-one_outcome : goal.returns-clause-one_outcome
@@ -13,6 +14,15 @@ returns-clause-all_are_read c = all_are_read
 
 pub returns-clause-one_run : goal.returns-clause-one_run
 returns-clause-one_run c = one_run
+
+pub returns-clause-one_session : goal.returns-clause-one_session
+returns-clause-one_session c = one_session
+
+pub returns-clause-one_coverage : goal.returns-clause-one_coverage
+returns-clause-one_coverage c = one_coverage
+
+pub returns-clause-refuses_none : goal.returns-clause-refuses_none
+returns-clause-refuses_none c = refuses_none
 
 pub returns-clause-refuses : goal.returns-clause-refuses
 returns-clause-refuses c = refuses

@@ -1,4 +1,4 @@
-use Rattle.cov_words.proofs.LawsLemmas.{maps_file, exec_file, exec_turns, no_turns, one_file, instrument_file, merge_file, report_file, check_files, v8_file, other_name}
+use Rattle.cov_words.proofs.LawsLemmas.{maps_file, exec_file, exec_turns, no_turns, one_file, run_file, run_excluding, instrument_file, merge_file, report_file, check_files, v8_file, other_name}
 use Rattle.cov_words.proofs.laws.plain_words.Goals as goal
 
 pub returns-clause-maps_file : goal.returns-clause-maps_file
@@ -15,6 +15,12 @@ returns-clause-no_turns c = no_turns
 
 pub returns-clause-one_file : goal.returns-clause-one_file
 returns-clause-one_file c = one_file
+
+pub returns-clause-run_file : goal.returns-clause-run_file
+returns-clause-run_file c = run_file
+
+pub returns-clause-run_excluding : goal.returns-clause-run_excluding
+returns-clause-run_excluding c = run_excluding
 
 pub returns-clause-v8_file : goal.returns-clause-v8_file
 returns-clause-v8_file c = v8_file

@@ -18,6 +18,10 @@ pub returns-clause-instruments : goal.returns-clause-instruments
 unfolding clap_on_literals
 returns-clause-instruments c = refl
 
+pub returns-clause-runs : goal.returns-clause-runs
+unfolding clap_on_literals
+returns-clause-runs c = refl
+
 pub returns-clause-merges : goal.returns-clause-merges
 unfolding clap_on_literals
 returns-clause-merges c = refl
