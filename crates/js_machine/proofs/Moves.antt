@@ -9,10 +9,11 @@ use Rattle.js_machine.specs.declared.data.Control.TheVariants as control
 use Rattle.js_machine.specs.declared.data.Frame.{Frame}
 use Rattle.js_machine.specs.declared.data.Rest.{Rest}
 use Rattle.js_machine.specs.declared.data.Rest.TheVariants as rest
-use Rattle.js_machine.specs.declared.data.Step.{Step}
+use Rattle.js_machine.specs.declared.data.Task.{Task}
 use Rattle.js_machine.specs.declared.state.State.{State}
-use Rattle.js_machine.specs.private.Config.{View, action_comp, control_comp, step_comp, frame_comp, plug}
-use Rattle.js_machine.specs.private.Weight.{place_weight, action_weight, control_weight, step_weight, frame_weight, frames_weight}
+use Rattle.js_machine.specs.private.Config.{View, action_comp, control_comp, frame_comp, plug, task_comp}
+use Rattle.js_machine.specs.private.Weight.{place_weight, action_weight, control_weight, frame_weight, frames_weight, task_weight}
+use Rattle.js_machine.specs.private.Frames.{ComesTo, Lighter}
 use Rattle.js_machine.specs.private.Moves.{Here, here, work, Leads, Rests, IsAt, rest_control}
 use Rattle.js_machine.specs.private.State.{Held, held, store_in, Becomes}
 use Rattle.js_machine.proofs.Plug.{plug_push, plug_becomes, frames_weight-push}
@@ -23,62 +24,38 @@ leads_none t a = record { same = λ base inside n. refl }
 pub leads_on : (t : View) (a b c : Here) → Leads t a b → Leads t b c → Leads t a c
 leads_on t a b c x y = record { same = λ base inside n. x.same base inside n ∙ y.same base inside n }
 
--- a step under these frames does what the control does under those
-abbrev pub Steps : View → List Frame → Control → List Frame → Step → Type 0
-Steps t fs0 at fs step = plug t fs (step_comp t step) ≡ plug t fs0 (control_comp t at)
-
--- and leaves less work
-abbrev pub Lightens : List Frame → Control → List Frame → Step → Type 0
-Lightens fs0 at fs step =
-    frames_weight place_weight fs + step_weight place_weight step < frames_weight place_weight fs0 + control_weight place_weight at
-
--- the control begins
-pub begins : (t : View) (fs0 : List Frame) (at said : Control) (fs : List Frame) (step given : Step) →
-    at ≡ said → fs ≡ fs0 → step ≡ given → step_comp t given ≡ control_comp t said → Steps t fs0 at fs step
-begins t fs0 at said fs step given is same steps means =
-    ap (λ f. plug t f (step_comp t step)) same ∙ ap (λ x. plug t fs0 (step_comp t x)) steps ∙ ap (plug t fs0) means
-    ∙ ap (λ x. plug t fs0 (control_comp t x)) (sym is)
-
-pub begins_lighter : (fs0 : List Frame) (at said : Control) (fs : List Frame) (step given : Step) →
-    at ≡ said → fs ≡ fs0 → step ≡ given → step_weight place_weight given < control_weight place_weight said → Lightens fs0 at fs step
-begins_lighter fs0 at said fs step given is same steps less =
-    let a = ap (control_weight place_weight) is in
-    let b = ap (frames_weight place_weight) same in
-    let c = ap (step_weight place_weight) steps in
-    omega (arith, a, b, c, less)
-
--- a completion goes to the frame on top
-pub resumes : (t : View) (fs0 : List Frame) (at : Control) (fs rest : List Frame) (step given : Step) (frame : Frame) (completion : Completion) →
-    at ≡ control.Give completion → fs ≡ rest → step ≡ given → fs0 ≡ rest ++ frame ∷ [] →
-    step_comp t given ≡ frame_comp t frame completion → Steps t fs0 at fs step
-resumes t fs0 at fs rest step given frame completion is same steps pop means =
-    ap (λ f. plug t f (step_comp t step)) same ∙ ap (λ x. plug t rest (step_comp t x)) steps ∙ ap (plug t rest) means
-    ∙ sym (plug_push t rest frame (ret completion))
-    ∙ ap (λ f. plug t f (ret completion)) (sym pop)
-    ∙ ap (λ x. plug t fs0 (control_comp t x)) (sym is)
-
-pub resumes_lighter : (fs0 : List Frame) (at : Control) (fs rest : List Frame) (step given : Step) (frame : Frame) (completion : Completion) →
-    at ≡ control.Give completion → fs ≡ rest → step ≡ given → fs0 ≡ rest ++ frame ∷ [] →
-    step_weight place_weight given < frame_weight place_weight frame → Lightens fs0 at fs step
-resumes_lighter fs0 at fs rest step given frame completion is same steps pop less =
-    let a = ap (control_weight place_weight) is in
-    let b = ap (frames_weight place_weight) same in
-    let c = ap (step_weight place_weight) steps in
-    let d = ap (frames_weight place_weight) pop ∙ frames_weight-push place_weight rest frame in
-    omega (arith, a, b, c, d, less)
-
--- what is next after the step, under its frame if it has one
-pub step_moves : (t : View) (fs0 fs fs' : List Frame) (at next : Control) (step : Step) (s : State) →
-    Steps t fs0 at fs step → plug t fs' (control_comp t next) ≡ plug t fs (step_comp t step) →
-    Leads t (here fs0 at s) (here fs' next s)
-step_moves t fs0 fs fs' at next step s steps plugs =
-    let e : plug t fs0 (control_comp t at) ≡ plug t fs' (control_comp t next) = sym steps ∙ sym plugs in
+-- a part of the code begins
+pub begins : (t : View) (fs0 fs : List Frame) (at next : Control) (task : Task) (s : State) →
+    at ≡ control.Begin task → ComesTo t fs0 (task_comp t task) fs next → Leads t (here fs0 at s) (here fs next s)
+begins t fs0 fs at next task s is comes =
+    let e : plug t fs0 (control_comp t at) ≡ plug t fs (control_comp t next) = ap (λ x. plug t fs0 (control_comp t x)) is ∙ sym comes in
     record { same = λ base inside n. ap (λ c. exec inside n c (store_in base s)) e }
 
-pub step_lessens : (fs0 fs fs' : List Frame) (at next : Control) (step : Step) (s : State) → Lightens fs0 at fs step →
-    frames_weight place_weight fs' + control_weight place_weight next ≡ frames_weight place_weight fs + step_weight place_weight step →
-    work (here fs' next s) < work (here fs0 at s)
-step_lessens fs0 fs fs' at next step s less weighs = omega (arith, less, weighs)
+pub begins_lighter : (fs0 fs : List Frame) (at next : Control) (task : Task) (s u : State) →
+    at ≡ control.Begin task → Lighter place_weight fs0 (task_weight place_weight task) fs next → work (here fs next u) < work (here fs0 at s)
+begins_lighter fs0 fs at next task s u is less =
+    let a : control_weight place_weight at ≡ task_weight place_weight task = ap (control_weight place_weight) is in
+    omega (arith, a, less)
+
+-- a completion goes to the frame on top
+pub resumes : (t : View) (fs0 rest fs : List Frame) (at next : Control) (frame : Frame) (completion : Completion) (s : State) →
+    at ≡ control.Give completion → fs0 ≡ rest ++ frame ∷ [] → ComesTo t rest (frame_comp t frame completion) fs next →
+    Leads t (here fs0 at s) (here fs next s)
+resumes t fs0 rest fs at next frame completion s is pop comes =
+    let e : plug t fs0 (control_comp t at) ≡ plug t fs (control_comp t next) =
+    ap (λ x. plug t fs0 (control_comp t x)) is ∙ ap (λ f. plug t f (ret completion)) pop ∙ plug_push t rest frame (ret completion) ∙ sym comes
+    in
+    record { same = λ base inside n. ap (λ c. exec inside n c (store_in base s)) e }
+
+pub resumes_lighter : (fs0 rest fs : List Frame) (at next : Control) (frame : Frame) (completion : Completion) (s u : State) →
+    at ≡ control.Give completion → fs0 ≡ rest ++ frame ∷ [] → Lighter place_weight rest (frame_weight place_weight frame) fs next →
+    work (here fs next u) < work (here fs0 at s)
+resumes_lighter fs0 rest fs at next frame completion s u is pop less =
+    let a : control_weight place_weight at ≡ 0 = ap (control_weight place_weight) is in
+    let d : frames_weight place_weight fs0 ≡ frames_weight place_weight rest + frame_weight place_weight frame =
+    ap (frames_weight place_weight) pop ∙ frames_weight-push place_weight rest frame
+    in
+    omega (arith, a, d, less)
 
 -- what needs the store is done
 pub perform_moves : (t : View) (fs : List Frame) (action : Action) (at next : Control) (s u : State) →

@@ -1,6 +1,7 @@
 -- What the contracts of private functions name: no reader has to believe it.
 pub mod Carries
 pub mod Config
+pub mod Frames
 pub mod Moves
 pub mod Opening
 pub mod Runs

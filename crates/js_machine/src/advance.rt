@@ -1,14 +1,14 @@
 // From one place that asks for a step to the next.
 
-ghost use Rattle.std.specs.Prelude.{◌≡◌, ◌<◌, ◌+◌, [], IfOk};
+ghost use Rattle.std.specs.Prelude.{◌≡◌, ◌+◌, IfOk};
 ghost use Rattle.js_meaning.specs.Program.{Sources};
 ghost use Rattle.js_machine.specs.private.Carries.{Carries};
 ghost use Rattle.js_machine.specs.private.Config.{View, view_of, step_comp, control_comp, plug};
 ghost use Rattle.js_machine.specs.private.Weight.{Weights, control_weight, frames_weight, step_weight};
-ghost use Rattle.js_machine.specs.private.Moves.{here, Lessens, Moves, Rests};
+ghost use Rattle.js_machine.specs.private.Moves.{here, Rests};
 
 use crate::begin::begin;
-use crate::data::{Control, Frame, Move, Rest, Step};
+use crate::data::{Control, Frame, Rest, Step};
 use crate::names::Words;
 use crate::perform::perform;
 use crate::resume::resume;
@@ -34,34 +34,6 @@ pub fn apply(frames: &mut Vec<Frame>, step: Step) -> Result<Control, Memory>
     }
 }
 
-// One transition, where the machine can go on by itself.
-fn move_on(
-    alloc: Global,
-    code: &Code,
-    words: &Words,
-    state: &mut State,
-    frames: &mut Vec<Frame>,
-    control: Control,
-) -> Result<Move, Memory>
-    ensures moves { IfOk result (λ to. (p : Sources) → Carries p code.now →
-        Moves (view_of p code.now.nodes) (here frames.old.items control state.old) to frames.new.items state.new) }
-    ensures lessens { IfOk result (λ to. Lessens (here frames.old.items control state.old) to frames.new.items state.new) }
-{
-    let step = match control {
-        Control::Begin(task) => begin(alloc, code, words, task)?,
-        Control::Give(completion) => match frames.pop() {
-            None => return Ok(Move::At(Rest::Completed(completion))),
-            Some(frame) => resume(alloc, frame, completion)?,
-        },
-        Control::Do(action) => {
-            return Ok(Move::Next(perform(alloc, code, words, state, action)?));
-        }
-        Control::Refuse(kind) => return Ok(Move::At(Rest::Refused(kind))),
-        Control::Enter(entry) => return Ok(Move::At(Rest::Asks(entry))),
-    };
-    Ok(Move::Next(apply(frames, step)?))
-}
-
 /// Goes on until a step is asked for, or there is nothing to do.
 pub fn advance(
     alloc: Global,
@@ -75,10 +47,16 @@ pub fn advance(
         Rests (view_of p code.now.nodes) (here frames.old.items control state.old) rest frames.new.items state.new) }
 {
     let mut at = control;
-    loop {
-        match move_on(alloc, code, words, state, frames, at)? {
-            Move::Next(next) => at = next,
-            Move::At(rest) => return Ok(rest),
+    'transitions: loop {
+        match at {
+            Control::Begin(task) => at = begin(alloc, code, words, frames, task)?,
+            Control::Give(completion) => match frames.pop() {
+                None => return Ok(Rest::Completed(completion)),
+                Some(frame) => at = resume(alloc, frames, frame, completion)?,
+            },
+            Control::Do(action) => at = perform(alloc, code, words, state, action)?,
+            Control::Refuse(kind) => return Ok(Rest::Refused(kind)),
+            Control::Enter(entry) => return Ok(Rest::Asks(entry)),
         }
     }
 }

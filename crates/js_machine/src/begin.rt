@@ -5,14 +5,16 @@ ghost use Rattle.js_code.specs.Code.{reader};
 ghost use Rattle.js_code.specs.Part.{as_expr_if, as_stmt_if};
 ghost use Rattle.js_meaning.specs.Meaning.{comp_expr_if, comp_stmt_if};
 ghost use Rattle.js_meaning.specs.Program.{Sources};
-ghost use Rattle.js_machine.specs.private.Config.{View, view_of, expr_or, stmt_or, step_comp, task_comp};
-ghost use Rattle.js_machine.specs.private.Weight.{Weights, clause_weight, place_weight, step_weight, task_weight};
+ghost use Rattle.js_machine.specs.private.Config.{View, view_of, expr_or, stmt_or, task_comp, control_comp};
+ghost use Rattle.js_machine.specs.private.Weight.{Weights, clause_weight, place_weight, task_weight, control_weight};
+ghost use Rattle.js_machine.specs.private.Frames.{ComesTo, Lighter};
 
 use crate::clauses::{
     begin_clause, begin_clauses, begin_default, begin_default_case, begin_select, begin_select_case,
 };
-use crate::data::{Action, Control, Frame, Step, Task};
+use crate::data::{Action, Control, Frame, Task};
 use crate::expressions::begin_expression;
+use crate::frames::push;
 use crate::functions::{begin_body, begin_param, begin_parameters, begin_params};
 use crate::lists::list_of;
 use crate::literals::{
@@ -39,36 +41,54 @@ use js_value::{Str, Value};
 use std::alloc::Global;
 
 /// A part of the code begins.
-pub fn begin(alloc: Global, code: &Code, words: &Words, task: Task) -> Result<Step, Memory>
-    ensures means { IfOk result (λ step. (p : Sources) → step_comp (view_of p code.now.nodes) step ≡ task_comp (view_of p code.now.nodes) task) }
-    ensures less { IfOk result (λ step. step_weight place_weight step < task_weight place_weight task) }
+pub fn begin(
+    alloc: Global,
+    code: &Code,
+    words: &Words,
+    frames: &mut Vec<Frame>,
+    task: Task,
+) -> Result<Control, Memory>
+    ensures means { IfOk result (λ control. (p : Sources) → ComesTo (view_of p code.now.nodes) frames.old.items (task_comp (view_of p code.now.nodes) task) frames.new.items control) }
+    ensures less { IfOk result (λ control. Lighter place_weight frames.old.items (task_weight place_weight task) frames.new.items control) }
 {
     match task {
-        Task::Evaluate { place, env } => begin_expression(alloc, code.node(place), place, env),
+        Task::Evaluate { place, env } => begin_expression(
+            alloc,
+            frames,
+            code.node(place),
+            place,
+            env,
+        ),
         Task::EvaluateNamed { title, place, env } => {
             Ok(begin_named(code.node(place), title, place, env))
         }
         Task::EvaluateIf { place, env } => Ok(evaluate_if(there(code, place), env)),
-        Task::TypeOf { place, env } => Ok(begin_type_of(code.node(place), place, env)),
-        Task::Refer { place, env, next } => Ok(begin_reference(code.node(place), place, env, next)),
+        Task::TypeOf { place, env } => begin_type_of(frames, code.node(place), place, env),
+        Task::Refer { place, env, next } => begin_reference(
+            frames,
+            code.node(place),
+            place,
+            env,
+            next,
+        ),
         Task::Referred {
             next,
             env,
             reference,
-        } => begin_referred(next, env, reference),
+        } => begin_referred(frames, next, env, reference),
         Task::Gather {
             place,
             env,
             values,
             gathering,
-        } => Ok(begin_list(code.node(place), env, values, gathering)),
+        } => begin_list(frames, code.node(place), env, values, gathering),
         Task::Template { parts, env, units } => Ok(begin_template(code.node(parts), env, units)),
         Task::TemplatePart {
             part,
             rest,
             env,
             units,
-        } => Ok(begin_template_part(code.node(part), part, rest, env, units)),
+        } => begin_template_part(frames, code.node(part), part, rest, env, units),
         Task::TemplateText {
             part,
             rest,
@@ -79,30 +99,30 @@ pub fn begin(alloc: Global, code: &Code, words: &Words, task: Task) -> Result<St
             properties,
             env,
             object,
-        } => Ok(begin_properties(code.node(properties), env, object)),
+        } => begin_properties(frames, code.node(properties), env, object),
         Task::DefineOne {
             property,
             env,
             object,
-        } => Ok(begin_property(code.node(property), property, env, object)),
-        Task::Key { key, env, next } => begin_key(alloc, code.node(key), key, env, next),
-        Task::Keyed { next, env, key } => begin_keyed(next, env, key),
+        } => begin_property(frames, code.node(property), property, env, object),
+        Task::Key { key, env, next } => begin_key(alloc, frames, code.node(key), key, env, next),
+        Task::Keyed { next, env, key } => begin_keyed(frames, next, env, key),
         Task::Declare {
             kind,
             declarators,
             env,
-        } => Ok(begin_declarators(code.node(declarators), kind, env)),
+        } => begin_declarators(frames, code.node(declarators), kind, env),
         Task::DeclareOne {
             kind,
             declarator,
             env,
-        } => Ok(declare(code, kind, declarator, env)),
+        } => declare(code, frames, kind, declarator, env),
         Task::Execute { place, labels, env } => {
-            begin_statement(alloc, code.node(place), place, labels, env)
+            begin_statement(alloc, frames, code.node(place), place, labels, env)
         }
         Task::ExecuteIf { place, env } => Ok(execute_if(alloc, there(code, place), env)),
-        Task::ExecuteAll { place, env } => Ok(execute_all(alloc, code, place, env)),
-        Task::Try { block, catch, env } => Ok(begin_try(block, catch, env)),
+        Task::ExecuteAll { place, env } => execute_all(alloc, code, frames, place, env),
+        Task::Try { block, catch, env } => begin_try(frames, block, catch, env),
         Task::Select {
             cases,
             all,
@@ -115,10 +135,10 @@ pub fn begin(alloc: Global, code: &Code, words: &Words, task: Task) -> Result<St
             all,
             value,
             env,
-        } => Ok(select_case(code, case, rest, all, value, env)),
+        } => select_case(code, frames, case, rest, all, value, env),
         Task::Default { cases, env } => Ok(begin_default(code.node(cases), env)),
-        Task::DefaultCase { case, rest, env } => Ok(default_case(code, case, rest, env)),
-        Task::Fall { cases, env } => Ok(begin_clauses(code.node(cases), env)),
+        Task::DefaultCase { case, rest, env } => default_case(code, frames, case, rest, env),
+        Task::Fall { cases, env } => begin_clauses(frames, code.node(cases), env),
         Task::ExecuteCase { case, env } => Ok(begin_clause(code.node(case), env)),
         Task::Catch { catch, value, env } => Ok(begin_catch(code.node(catch), catch, value, env)),
         Task::Start { init, env } => Ok(begin_init(code.node(init), env)),
@@ -127,12 +147,12 @@ pub fn begin(alloc: Global, code: &Code, words: &Words, task: Task) -> Result<St
             statement,
             labels,
             env,
-        } => Ok(begin_test(there(code, test), statement, labels, env)),
+        } => begin_test(frames, there(code, test), statement, labels, env),
         Task::Again {
             statement,
             labels,
             env,
-        } => Ok(begin_again(code.node(statement), statement, labels, env)),
+        } => begin_again(frames, code.node(statement), statement, labels, env),
         Task::Continued {
             label,
             statement,
@@ -151,7 +171,7 @@ pub fn begin(alloc: Global, code: &Code, words: &Words, task: Task) -> Result<St
             function,
             arguments,
             env,
-        } => Ok(begin_parameters(code.node(function), function, arguments, env)),
+        } => begin_parameters(frames, code.node(function), function, arguments, env),
         Task::Bind {
             params,
             arguments,
@@ -164,16 +184,16 @@ pub fn begin(alloc: Global, code: &Code, words: &Words, task: Task) -> Result<St
             arguments,
             next,
             env,
-        } => bind_param(code, param, rest, arguments, next, env),
-        Task::Run { function, env } => Ok(begin_body(code.node(function), env)),
-        Task::RunFile { statements, env } => Ok(Step::Push(
-            Frame::AfterCall,
-            Control::Begin(Task::ExecuteAll {
+        } => bind_param(code, frames, param, rest, arguments, next, env),
+        Task::Run { function, env } => begin_body(frames, code.node(function), env),
+        Task::RunFile { statements, env } => {
+            push(frames, Frame::AfterCall)?;
+            Ok(Control::Begin(Task::ExecuteAll {
                 place: statements,
                 env,
-            }),
-        )),
-        Task::Within { next, env } => Ok(begin_within(next, env)),
+            }))
+        }
+        Task::Within { next, env } => begin_within(frames, next, env),
     }
 }
 
@@ -190,28 +210,28 @@ fn there(code: &Code, place: usize) -> Option<usize>
 }
 
 // An expression, if it is there.
-fn evaluate_if(place: Option<usize>, env: Env) -> Step
-    ensures means { (t : View) → step_comp t result ≡ comp_expr_if t.program (expr_or t place) env.index }
-    ensures less { (w : Weights) → step_weight w result ≤ clause_weight w place }
+fn evaluate_if(place: Option<usize>, env: Env) -> Control
+    ensures means { (t : View) → control_comp t result ≡ comp_expr_if t.program (expr_or t place) env.index }
+    ensures less { (w : Weights) → control_weight w result ≤ clause_weight w place }
 {
     match place {
         None => undefined(),
-        Some(place) => Step::Go(Control::Begin(Task::Evaluate { place, env })),
+        Some(place) => Control::Begin(Task::Evaluate { place, env }),
     }
 }
 
 // A statement, if it is there.
-fn execute_if(alloc: Global, place: Option<usize>, env: Env) -> Step
-    ensures means { (t : View) → step_comp t result ≡ comp_stmt_if t.program (stmt_or t place) env.index }
-    ensures less { (w : Weights) → step_weight w result ≤ clause_weight w place }
+fn execute_if(alloc: Global, place: Option<usize>, env: Env) -> Control
+    ensures means { (t : View) → control_comp t result ≡ comp_stmt_if t.program (stmt_or t place) env.index }
+    ensures less { (w : Weights) → control_weight w result ≤ clause_weight w place }
 {
     match place {
         None => undefined(),
-        Some(place) => Step::Go(Control::Begin(Task::Execute {
+        Some(place) => Control::Begin(Task::Execute {
             place,
             labels: Labels::new(alloc),
             env,
-        })),
+        }),
     }
 }
 
@@ -223,60 +243,88 @@ fn template_text(
     rest: usize,
     env: Env,
     units: Str,
-) -> Result<Step, Memory>
-    ensures means { IfOk result (λ step. (p : Sources) → step_comp (view_of p code.now.nodes) step ≡ task_comp (view_of p code.now.nodes) (Task.TemplateText part rest env units)) }
-    ensures less { IfOk result (λ step. (w : Weights) → step_weight w step < w rest + 1) }
+) -> Result<Control, Memory>
+    ensures means { IfOk result (λ control. (p : Sources) → control_comp (view_of p code.now.nodes) control ≡ task_comp (view_of p code.now.nodes) (Task.TemplateText part rest env units)) }
+    ensures less { IfOk result (λ control. (w : Weights) → control_weight w control < w rest + 1) }
 {
     match code.node(part) {
-        Node::TemplatePart { text, .. } => Ok(Step::Go(Control::Begin(Task::Template {
+        Node::TemplatePart { text, .. } => Ok(Control::Begin(Task::Template {
             parts: rest,
             env,
             units: joined(alloc, &units, &text.units)?,
-        }))),
-        _ => Ok(Step::Go(Control::Begin(Task::Template {
+        })),
+        _ => Ok(Control::Begin(Task::Template {
             parts: rest,
             env,
             units,
-        }))),
+        })),
     }
 }
 
 // A declarator.
-fn declare(code: &Code, kind: VariableKind, declarator: usize, env: Env) -> Step
-    ensures means { (p : Sources) → step_comp (view_of p code.now.nodes) result ≡ task_comp (view_of p code.now.nodes) (Task.DeclareOne kind declarator env) }
-    ensures less { step_weight place_weight result < place_weight declarator }
+fn declare(
+    code: &Code,
+    frames: &mut Vec<Frame>,
+    kind: VariableKind,
+    declarator: usize,
+    env: Env,
+) -> Result<Control, Memory>
+    ensures means { IfOk result (λ control. (p : Sources) → ComesTo (view_of p code.now.nodes) frames.old.items (task_comp (view_of p code.now.nodes) (Task.DeclareOne kind declarator env)) frames.new.items control) }
+    ensures less { IfOk result (λ control. Lighter place_weight frames.old.items (place_weight declarator) frames.new.items control) }
 {
     match code.node(declarator) {
         Node::Declarator { initializer, .. } => {
-            begin_declarator(kind, declarator, there(code, *initializer), env)
+            begin_declarator(frames, kind, declarator, there(code, *initializer), env)
         }
-        _ => begin_declarator(kind, NOWHERE, None, env),
+        _ => begin_declarator(frames, kind, NOWHERE, None, env),
     }
 }
 
 // A list of statements.
-fn execute_all(alloc: Global, code: &Code, place: usize, env: Env) -> Step
-    ensures means { (p : Sources) → step_comp (view_of p code.now.nodes) result ≡ task_comp (view_of p code.now.nodes) (Task.ExecuteAll place env) }
-    ensures less { step_weight place_weight result < place_weight place }
+fn execute_all(
+    alloc: Global,
+    code: &Code,
+    frames: &mut Vec<Frame>,
+    place: usize,
+    env: Env,
+) -> Result<Control, Memory>
+    ensures means { IfOk result (λ control. (p : Sources) → ComesTo (view_of p code.now.nodes) frames.old.items (task_comp (view_of p code.now.nodes) (Task.ExecuteAll place env)) frames.new.items control) }
+    ensures less { IfOk result (λ control. Lighter place_weight frames.old.items (place_weight place) frames.new.items control) }
 {
     match list_of(code.node(place), ListKind::Stmts) {
-        Some((first, rest)) => begin_statements(alloc, first, rest, code.node(rest), env),
-        None => undefined(),
+        Some((first, rest)) => begin_statements(alloc, frames, first, rest, code.node(rest), env),
+        None => Ok(undefined()),
     }
 }
 
 // A clause of a `switch`, and those after it.
-fn select_case(code: &Code, case: usize, rest: usize, all: usize, value: Value, env: Env) -> Step
-    ensures means { (p : Sources) → step_comp (view_of p code.now.nodes) result ≡ task_comp (view_of p code.now.nodes) (Task.SelectCase case rest all value env) }
-    ensures less { step_weight place_weight result < place_weight case + place_weight rest + place_weight all + 2 }
+fn select_case(
+    code: &Code,
+    frames: &mut Vec<Frame>,
+    case: usize,
+    rest: usize,
+    all: usize,
+    value: Value,
+    env: Env,
+) -> Result<Control, Memory>
+    ensures means { IfOk result (λ control. (p : Sources) → ComesTo (view_of p code.now.nodes) frames.old.items (task_comp (view_of p code.now.nodes) (Task.SelectCase case rest all value env)) frames.new.items control) }
+    ensures less { IfOk result (λ control. Lighter place_weight frames.old.items (place_weight case + place_weight rest + place_weight all + 2) frames.new.items control) }
 {
     match code.node(case) {
         Node::Case {
             test,
             statements,
             ..
-        } => begin_select_case(there(code, *test), *statements, rest, all, value, env),
-        _ => Step::Go(Control::Begin(Task::Select {
+        } => begin_select_case(
+            frames,
+            there(code, *test),
+            *statements,
+            rest,
+            all,
+            value,
+            env,
+        ),
+        _ => Ok(Control::Begin(Task::Select {
             cases: rest,
             all,
             value,
@@ -286,44 +334,59 @@ fn select_case(code: &Code, case: usize, rest: usize, all: usize, value: Value, 
 }
 
 // A clause, and those after it, for `default`.
-fn default_case(code: &Code, case: usize, rest: usize, env: Env) -> Step
-    ensures means { (p : Sources) → step_comp (view_of p code.now.nodes) result ≡ task_comp (view_of p code.now.nodes) (Task.DefaultCase case rest env) }
-    ensures less { step_weight place_weight result < place_weight case + place_weight rest }
+fn default_case(
+    code: &Code,
+    frames: &mut Vec<Frame>,
+    case: usize,
+    rest: usize,
+    env: Env,
+) -> Result<Control, Memory>
+    ensures means { IfOk result (λ control. (p : Sources) → ComesTo (view_of p code.now.nodes) frames.old.items (task_comp (view_of p code.now.nodes) (Task.DefaultCase case rest env)) frames.new.items control) }
+    ensures less { IfOk result (λ control. Lighter place_weight frames.old.items (place_weight case + place_weight rest) frames.new.items control) }
 {
     match code.node(case) {
         Node::Case {
             test,
             statements,
             ..
-        } => { begin_default_case(there(code, *test), *statements, rest, env) }
-        _ => fall_on(rest, env),
+        } => { begin_default_case(frames, there(code, *test), *statements, rest, env) }
+        _ => Ok(fall_on(rest, env)),
     }
 }
 
 // The clauses after one that has no statements.
-fn fall_on(rest: usize, env: Env) -> Step
-    ensures { result ≡ Step.Go (Control.Begin (Task.Fall rest env)) }
+fn fall_on(rest: usize, env: Env) -> Control
+    ensures { result ≡ Control.Begin (Task.Fall rest env) }
 {
-    Step::Go(Control::Begin(Task::Fall { cases: rest, env }))
+    Control::Begin(Task::Fall { cases: rest, env })
 }
 
 // A parameter and those after it.
 fn bind_param(
     code: &Code,
+    frames: &mut Vec<Frame>,
     param: usize,
     rest: usize,
     arguments: Items<Value>,
     next: usize,
     env: Env,
-) -> Result<Step, Memory>
-    ensures means { IfOk result (λ step. (p : Sources) → step_comp (view_of p code.now.nodes) step ≡ task_comp (view_of p code.now.nodes) (Task.BindParam param rest arguments next env)) }
-    ensures less { IfOk result (λ step. step_weight place_weight step < place_weight param + place_weight rest) }
+) -> Result<Control, Memory>
+    ensures means { IfOk result (λ control. (p : Sources) → ComesTo (view_of p code.now.nodes) frames.old.items (task_comp (view_of p code.now.nodes) (Task.BindParam param rest arguments next env)) frames.new.items control) }
+    ensures less { IfOk result (λ control. Lighter place_weight frames.old.items (place_weight param + place_weight rest) frames.new.items control) }
 {
     match code.node(param) {
         Node::Param { default, .. } => {
-            begin_param(param, there(code, *default), rest, arguments, next, env)
+            begin_param(
+                frames,
+                param,
+                there(code, *default),
+                rest,
+                arguments,
+                next,
+                env,
+            )
         }
-        _ => begin_param(NOWHERE, None, rest, arguments, next, env),
+        _ => begin_param(frames, NOWHERE, None, rest, arguments, next, env),
     }
 }
 
@@ -335,44 +398,44 @@ fn continued(
     statement: usize,
     labels: Labels,
     env: Env,
-) -> Step
-    ensures means { (p : Sources) → step_comp (view_of p code.now.nodes) result ≡ task_comp (view_of p code.now.nodes) (Task.Continued label statement labels env) }
-    ensures less { (w : Weights) → step_weight w result < 2 * w statement + 1 }
+) -> Control
+    ensures means { (p : Sources) → control_comp (view_of p code.now.nodes) result ≡ task_comp (view_of p code.now.nodes) (Task.Continued label statement labels env) }
+    ensures less { (w : Weights) → control_weight w result < 2 * w statement + 1 }
 {
     if stands_in(code, words, labels.as_slice(), &label) {
         drop(label);
-        Step::Go(Control::Begin(Task::Again {
+        Control::Begin(Task::Again {
             statement,
             labels,
             env,
-        }))
+        })
     } else {
-        Step::Go(Control::Give(Completion::Continue(Some(label))))
+        Control::Give(Completion::Continue(Some(label)))
     }
 }
 
 // A loop with `in` or `of` after a `continue` with a label.
-fn continued_pass(code: &Code, words: &Words, label: Name, round: Loop, rest: Iteration) -> Step
-    ensures means { (p : Sources) → step_comp (view_of p code.now.nodes) result ≡ task_comp (view_of p code.now.nodes) (Task.ContinuedPass label round rest) }
-    ensures less { (w : Weights) → step_weight w result < w round.target + 2 }
+fn continued_pass(code: &Code, words: &Words, label: Name, round: Loop, rest: Iteration) -> Control
+    ensures means { (p : Sources) → control_comp (view_of p code.now.nodes) result ≡ task_comp (view_of p code.now.nodes) (Task.ContinuedPass label round rest) }
+    ensures less { (w : Weights) → control_weight w result < w round.target + 2 }
 {
     if stands_in(code, words, round.labels.as_slice(), &label) {
         drop(label);
-        Step::Go(Control::Do(Action::GoThrough { round, rest }))
+        Control::Do(Action::GoThrough { round, rest })
     } else {
-        Step::Go(Control::Give(Completion::Continue(Some(label))))
+        Control::Give(Completion::Continue(Some(label)))
     }
 }
 
 // A statement with a label, after a `break` with one.
-fn broken_at(code: &Code, words: &Words, label: usize, broken: Name) -> Step
-    ensures means { (p : Sources) → step_comp (view_of p code.now.nodes) result ≡ task_comp (view_of p code.now.nodes) (Task.Broken label broken) }
-    ensures less { (w : Weights) → step_weight w result ≡ 0 }
+fn broken_at(code: &Code, words: &Words, label: usize, broken: Name) -> Control
+    ensures means { (p : Sources) → control_comp (view_of p code.now.nodes) result ≡ task_comp (view_of p code.now.nodes) (Task.Broken label broken) }
+    ensures less { (w : Weights) → control_weight w result ≡ 0 }
 {
     if is_name(code, words, label, &broken) {
         drop(broken);
         undefined()
     } else {
-        Step::Go(Control::Give(Completion::Break(Some(broken))))
+        Control::Give(Completion::Break(Some(broken)))
     }
 }

@@ -743,7 +743,7 @@ pub enum Frame {
     },
 }
 
-/// A transition: to what is next, perhaps under one frame more.
+/// What a step that is asked for goes to.
 #[derive(Drop)]
 pub enum Step {
     /// To what is next.
@@ -761,13 +761,4 @@ pub enum Rest {
     Refused(Kind),
     /// A step is asked for.
     Asks(Entry),
-}
-
-/// A transition, or none.
-#[derive(Drop)]
-pub enum Move {
-    /// To what is next.
-    Next(Control),
-    /// The machine can't go on by itself.
-    At(Rest),
 }

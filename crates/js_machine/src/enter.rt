@@ -214,7 +214,7 @@ fn answer_directly(
             drop(function);
             drop(this);
             drop(arguments);
-            Ok(undefined())
+            Ok(Step::Go(undefined()))
         }
     }
 }
@@ -225,7 +225,7 @@ fn write(state: &mut State, bytes: &[u8]) -> Result<Step, Memory>
         Becomes (act (written bytes.now) (λ s. M.done)) (store_in base state.old) (step_comp t step) (store_in base state.new)) }
 {
     state.output.extend_from_slice(bytes)?;
-    Ok(undefined())
+    Ok(Step::Go(undefined()))
 }
 
 // A call takes the place of another one.

@@ -8,10 +8,12 @@ ghost use Rattle.js_code.specs.Part.{as_code, as_params};
 ghost use Rattle.js_meaning.specs.Effects.{handle};
 ghost use Rattle.js_meaning.specs.Scopes.{params_of};
 ghost use Rattle.js_meaning.specs.Meaning as M;
-ghost use Rattle.js_machine.specs.private.Config.{View, body_comp, expr_or, step_comp, undefined_is};
-ghost use Rattle.js_machine.specs.private.Weight.{Weights, node_weight, step_weight, declarator_weight};
+ghost use Rattle.js_machine.specs.private.Config.{View, body_comp, control_comp, expr_or, frame_comp, undefined_is};
+ghost use Rattle.js_machine.specs.private.Weight.{Weights, control_weight, declarator_weight, frame_weight, frames_weight, node_weight};
+ghost use Rattle.js_machine.specs.private.Frames.{ComesTo, Lighter};
 
-use crate::data::{Action, Control, Frame, Pending, Step, Task};
+use crate::data::{Action, Control, Frame, Pending, Task};
+use crate::frames::push;
 use crate::lists::list_of;
 use crate::parts::Title;
 use crate::steps::undefined;
@@ -22,51 +24,61 @@ use js_value::{Primitive, Value};
 
 /// The parameters of a function begin, before its body.
 #[inline(never)]
-pub fn begin_parameters(node: &Node, function: usize, arguments: Items<Value>, env: Env) -> Step
-    ensures means { (t : View) → step_comp t result ≡
-        handle (M.comp_params t.program (params_of (as_code (build t.tree node.now))) env.index arguments) (M.with_value (λ v. body_comp t function env.index)) }
-    ensures less { (w : Weights) → step_weight w result < node_weight w node.now + w function }
+pub fn begin_parameters(
+    frames: &mut Vec<Frame>,
+    node: &Node,
+    function: usize,
+    arguments: Items<Value>,
+    env: Env,
+) -> Result<Control, Memory>
+    ensures means { IfOk result (λ control. (t : View) → ComesTo t frames.old.items (handle (M.comp_params t.program (params_of (as_code (build t.tree node.now))) env.index arguments) (M.with_value (λ v. body_comp t function env.index))) frames.new.items control) }
+    ensures less { IfOk result (λ control. (w : Weights) → Lighter w frames.old.items (node_weight w node.now + w function) frames.new.items control) }
 {
     match node {
-        Node::Function { params, .. } => bind_all(*params, function, arguments, env),
-        Node::ArrowExpression { params, .. } => bind_all(*params, function, arguments, env),
-        Node::ArrowBlock { params, .. } => bind_all(*params, function, arguments, env),
+        Node::Function { params, .. } => bind_all(frames, *params, function, arguments, env),
+        Node::ArrowExpression { params, .. } => bind_all(frames, *params, function, arguments, env),
+        Node::ArrowBlock { params, .. } => bind_all(frames, *params, function, arguments, env),
         _ => {
             drop(arguments);
-            Step::Go(Control::Do(Action::EnterBody { function, env }))
+            Ok(Control::Do(Action::EnterBody { function, env }))
         }
     }
 }
 
 // All parameters take their arguments, before the body.
-fn bind_all(params: usize, function: usize, arguments: Items<Value>, env: Env) -> Step
-    ensures { result ≡ Step.Push (Frame.Value (Pending.Bound function env)) (Control.Begin (Task.Bind params arguments 0 env)) }
+fn bind_all(
+    frames: &mut Vec<Frame>,
+    params: usize,
+    function: usize,
+    arguments: Items<Value>,
+    env: Env,
+) -> Result<Control, Memory>
+    ensures means { IfOk result (λ control. (t : View) → ComesTo t frames.old.items (handle (control_comp t (Control.Begin (Task.Bind params arguments 0 env))) (frame_comp t (Frame.Value (Pending.Bound function env)))) frames.new.items control) }
+    ensures weight { IfOk result (λ control. (w : Weights) → frames_weight w frames.new.items + control_weight w control ≡ frames_weight w frames.old.items + (frame_weight w (Frame.Value (Pending.Bound function env)) + control_weight w (Control.Begin (Task.Bind params arguments 0 env)))) }
 {
-    Step::Push(
-        Frame::Value(Pending::Bound { function, env }),
-        Control::Begin(Task::Bind {
-            params,
-            arguments,
-            next: 0,
-            env,
-        }),
-    )
+    push(frames, Frame::Value(Pending::Bound { function, env }))?;
+    Ok(Control::Begin(Task::Bind {
+        params,
+        arguments,
+        next: 0,
+        env,
+    }))
 }
 
 /// The parameters that are left begin.
 #[inline(never)]
-pub fn begin_params(node: &Node, arguments: Items<Value>, next: usize, env: Env) -> Step
-    ensures means { (t : View) → step_comp t result ≡ M.comp_params t.program (as_params (build t.tree node.now)) env.index (dropped next arguments) }
-    ensures less { (w : Weights) → step_weight w result < node_weight w node.now }
+pub fn begin_params(node: &Node, arguments: Items<Value>, next: usize, env: Env) -> Control
+    ensures means { (t : View) → control_comp t result ≡ M.comp_params t.program (as_params (build t.tree node.now)) env.index (dropped next arguments) }
+    ensures less { (w : Weights) → control_weight w result < node_weight w node.now }
 {
     match list_of(node, ListKind::Params) {
-        Some((first, rest)) => Step::Go(Control::Begin(Task::BindParam {
+        Some((first, rest)) => Control::Begin(Task::BindParam {
             param: first,
             rest,
             arguments,
             next,
             env,
-        })),
+        }),
         None => {
             drop(arguments);
             undefined()
@@ -77,21 +89,22 @@ pub fn begin_params(node: &Node, arguments: Items<Value>, next: usize, env: Env)
 /// A parameter takes its argument, or its default where that is undefined.
 #[inline(never)]
 pub fn begin_param(
+    frames: &mut Vec<Frame>,
     name: usize,
     default: Option<usize>,
     rest: usize,
     arguments: Items<Value>,
     next: usize,
     env: Env,
-) -> Result<Step, Memory>
-    ensures means { IfOk result (λ step. (t : View) (loc name_loc : Option Loc) → step_comp t step ≡ M.comp_params t.program
-        (P.more_param (P.MakeParam loc (P.BindingIdentifier name_loc (t.name name)) (expr_or t default)) (as_params (t.tree rest))) env.index (dropped next arguments)) }
-    ensures less { IfOk result (λ step. (w : Weights) → step_weight w step < declarator_weight w default + w rest + 2) }
+) -> Result<Control, Memory>
+    ensures means { IfOk result (λ control. (t : View) (loc name_loc : Option Loc) → ComesTo t frames.old.items (M.comp_params t.program
+        (P.more_param (P.MakeParam loc (P.BindingIdentifier name_loc (t.name name)) (expr_or t default)) (as_params (t.tree rest))) env.index (dropped next arguments)) frames.new.items control) }
+    ensures less { IfOk result (λ control. (w : Weights) → Lighter w frames.old.items (declarator_weight w default + w rest + 2) frames.new.items control) }
 {
     let value = argument_at(&arguments, next)?;
     match default {
-        Some(default) => Ok(begin_default(name, default, rest, arguments, next, value, env)),
-        None => Ok(take_argument(name, rest, arguments, next, value, env)),
+        Some(default) => begin_default(frames, name, default, rest, arguments, next, value, env),
+        None => take_argument(frames, name, rest, arguments, next, value, env),
     }
 }
 
@@ -109,28 +122,63 @@ fn argument_at(arguments: &Items<Value>, place: usize) -> Result<Value, Memory>
 
 // A parameter takes its argument.
 fn take_argument(
+    frames: &mut Vec<Frame>,
     name: usize,
     rest: usize,
     arguments: Items<Value>,
     next: usize,
     value: Value,
     env: Env,
-) -> Step
-    ensures { result ≡ Step.Push (Frame.Value (Pending.NextParam rest arguments next env)) (Control.Do (Action.Initialize name env value)) }
+) -> Result<Control, Memory>
+    ensures means { IfOk result (λ control. (t : View) → ComesTo t frames.old.items (handle (control_comp t (Control.Do (Action.Initialize name env value))) (frame_comp t (Frame.Value (Pending.NextParam rest arguments next env)))) frames.new.items control) }
+    ensures weight { IfOk result (λ control. (w : Weights) → frames_weight w frames.new.items + control_weight w control ≡ frames_weight w frames.old.items + (frame_weight w (Frame.Value (Pending.NextParam rest arguments next env)) + control_weight w (Control.Do (Action.Initialize name env value)))) }
 {
-    Step::Push(
+    push(
+        frames,
         Frame::Value(Pending::NextParam {
             rest,
             arguments,
             next,
             env,
         }),
-        Control::Do(Action::Initialize { name, env, value }),
-    )
+    )?;
+    Ok(Control::Do(Action::Initialize { name, env, value }))
+}
+
+// A parameter takes its default.
+fn take_default(
+    frames: &mut Vec<Frame>,
+    name: usize,
+    default: usize,
+    rest: usize,
+    arguments: Items<Value>,
+    next: usize,
+    env: Env,
+) -> Result<Control, Memory>
+    ensures means { IfOk result (λ control. (t : View) → ComesTo t frames.old.items
+        (handle (control_comp t (Control.Begin (Task.EvaluateNamed (Title.Name name) default env))) (frame_comp t (Frame.Value (Pending.Param name rest arguments next env)))) frames.new.items control) }
+    ensures weight { IfOk result (λ control. (w : Weights) → frames_weight w frames.new.items + control_weight w control ≡ frames_weight w frames.old.items + (2 * w default + w rest + 6)) }
+{
+    push(
+        frames,
+        Frame::Value(Pending::Param {
+            param: name,
+            rest,
+            arguments,
+            next,
+            env,
+        }),
+    )?;
+    Ok(Control::Begin(Task::EvaluateNamed {
+        title: Title::Name(name),
+        place: default,
+        env,
+    }))
 }
 
 // A parameter with a default takes its argument, or the default where that is undefined.
 fn begin_default(
+    frames: &mut Vec<Frame>,
     name: usize,
     default: usize,
     rest: usize,
@@ -138,30 +186,16 @@ fn begin_default(
     next: usize,
     value: Value,
     env: Env,
-) -> Step
-    ensures means { (t : View) → step_comp t result ≡
-        handle (M.comp_argument t.program (t.name name) (expr_or t (Some default)) env.index value) (M.with_value (λ v.
-        handle (M.initialize (t.name name) env.index v) (M.with_value (λ u. M.comp_params t.program (as_params (t.tree rest)) env.index (M.rest_of (dropped next arguments)))))) }
-    ensures less { (w : Weights) → step_weight w result < 2 * w default + w rest + 7 }
+) -> Result<Control, Memory>
+    ensures means { IfOk result (λ control. (t : View) → ComesTo t frames.old.items (handle (M.comp_argument t.program (t.name name) (expr_or t (Some default)) env.index value) (M.with_value (λ v.
+        handle (M.initialize (t.name name) env.index v) (M.with_value (λ u. M.comp_params t.program (as_params (t.tree rest)) env.index (M.rest_of (dropped next arguments))))))) frames.new.items control) }
+    ensures less { IfOk result (λ control. (w : Weights) → Lighter w frames.old.items (2 * w default + w rest + 7) frames.new.items control) }
 {
     if is_undefined(&value) {
         drop(value);
-        Step::Push(
-            Frame::Value(Pending::Param {
-                param: name,
-                rest,
-                arguments,
-                next,
-                env,
-            }),
-            Control::Begin(Task::EvaluateNamed {
-                title: Title::Name(name),
-                place: default,
-                env,
-            }),
-        )
+        take_default(frames, name, default, rest, arguments, next, env)
     } else {
-        take_argument(name, rest, arguments, next, value, env)
+        take_argument(frames, name, rest, arguments, next, value, env)
     }
 }
 
@@ -190,23 +224,17 @@ fn is_undefined_primitive(primitive: &Primitive) -> bool
 
 /// The body of a function begins.
 #[inline(never)]
-pub fn begin_body(node: &Node, env: Env) -> Step
-    ensures means { (t : View) → step_comp t result ≡ M.comp_concise t.program (arrow_body (as_code (build t.tree node.now))) env.index }
-    ensures less { (w : Weights) → step_weight w result < node_weight w node.now }
+pub fn begin_body(frames: &mut Vec<Frame>, node: &Node, env: Env) -> Result<Control, Memory>
+    ensures means { IfOk result (λ control. (t : View) → ComesTo t frames.old.items (M.comp_concise t.program (arrow_body (as_code (build t.tree node.now))) env.index) frames.new.items control) }
+    ensures less { IfOk result (λ control. (w : Weights) → Lighter w frames.old.items (node_weight w node.now) frames.new.items control) }
 {
     match node {
-        Node::Function { body, .. } => Step::Go(Control::Begin(Task::ExecuteAll {
-            place: *body,
-            env,
-        })),
-        Node::ArrowBlock { body, .. } => Step::Go(Control::Begin(Task::ExecuteAll {
-            place: *body,
-            env,
-        })),
-        Node::ArrowExpression { value, .. } => Step::Push(
-            Frame::Value(Pending::Return),
-            Control::Begin(Task::Evaluate { place: *value, env }),
-        ),
-        _ => undefined(),
+        Node::Function { body, .. } => Ok(Control::Begin(Task::ExecuteAll { place: *body, env })),
+        Node::ArrowBlock { body, .. } => Ok(Control::Begin(Task::ExecuteAll { place: *body, env })),
+        Node::ArrowExpression { value, .. } => {
+            push(frames, Frame::Value(Pending::Return))?;
+            Ok(Control::Begin(Task::Evaluate { place: *value, env }))
+        }
+        _ => Ok(undefined()),
     }
 }

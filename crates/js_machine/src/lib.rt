@@ -11,6 +11,7 @@ mod data;
 mod enter;
 mod expressions;
 mod file_actions;
+mod frames;
 mod function_actions;
 mod functions;
 mod lists;

@@ -5,11 +5,13 @@ ghost use Rattle.js_tree.specs.Plain as P;
 ghost use Rattle.js_code.specs.Node.{build};
 ghost use Rattle.js_code.specs.Part.{as_exprs, as_properties, as_property, as_property_key, as_template_part, as_template_parts};
 ghost use Rattle.js_meaning.specs.Meaning as M;
-ghost use Rattle.js_machine.specs.private.Config.{View, name_of, step_comp, control_comp, gathered, keyed, units_of};
-ghost use Rattle.js_machine.specs.private.Weight.{Weights, node_weight, step_weight, keying_weight, control_weight};
+ghost use Rattle.js_machine.specs.private.Config.{View, name_of, control_comp, gathered, keyed, units_of};
+ghost use Rattle.js_machine.specs.private.Weight.{Weights, node_weight, keying_weight, control_weight};
+ghost use Rattle.js_machine.specs.private.Frames.{ComesTo, Lighter};
 
 use crate::copies::copy_title;
-use crate::data::{Action, Control, Frame, Pending, Step, Task};
+use crate::data::{Action, Control, Frame, Pending, Task};
+use crate::frames::push;
 use crate::lists::list_of;
 use crate::parts::{Form, Gathering, Keying, Title};
 use crate::steps::NOWHERE;
@@ -22,49 +24,63 @@ use std::alloc::Global;
 
 /// The expressions of a list that are left begin, or what is done with their values.
 #[inline(never)]
-pub fn begin_list(node: &Node, env: Env, values: Items<Value>, gathering: Gathering) -> Step
-    ensures means { (t : View) → step_comp t result ≡ M.comp_values t.program (as_exprs (build t.tree node.now)) env.index values (gathered t gathering) }
-    ensures less { (w : Weights) → step_weight w result < node_weight w node.now }
+pub fn begin_list(
+    frames: &mut Vec<Frame>,
+    node: &Node,
+    env: Env,
+    values: Items<Value>,
+    gathering: Gathering,
+) -> Result<Control, Memory>
+    ensures means { IfOk result (λ control. (t : View) → ComesTo t frames.old.items (M.comp_values t.program (as_exprs (build t.tree node.now)) env.index values (gathered t gathering)) frames.new.items control) }
+    ensures less { IfOk result (λ control. (w : Weights) → Lighter w frames.old.items (node_weight w node.now) frames.new.items control) }
 {
     match list_of(node, ListKind::Exprs) {
-        Some((first, rest)) => Step::Push(
-            Frame::Value(Pending::Item {
-                rest,
-                env,
-                values,
-                gathering,
-            }),
-            Control::Begin(Task::Evaluate { place: first, env }),
-        ),
-        None => Step::Go(Control::Do(Action::Gathered { gathering, values })),
+        Some((first, rest)) => {
+            push(
+                frames,
+                Frame::Value(Pending::Item {
+                    rest,
+                    env,
+                    values,
+                    gathering,
+                }),
+            )?;
+            Ok(Control::Begin(Task::Evaluate { place: first, env }))
+        }
+        None => Ok(Control::Do(Action::Gathered { gathering, values })),
     }
 }
 
 /// The parts of a template that are left begin, or the whole text is there.
 #[inline(never)]
-pub fn begin_template(node: &Node, env: Env, units: Str) -> Step
-    ensures means { (t : View) → step_comp t result ≡ M.comp_template_parts t.program (as_template_parts (build t.tree node.now)) env.index units }
-    ensures less { (w : Weights) → step_weight w result < node_weight w node.now }
+pub fn begin_template(node: &Node, env: Env, units: Str) -> Control
+    ensures means { (t : View) → control_comp t result ≡ M.comp_template_parts t.program (as_template_parts (build t.tree node.now)) env.index units }
+    ensures less { (w : Weights) → control_weight w result < node_weight w node.now }
 {
     match list_of(node, ListKind::TemplateParts) {
-        Some((first, rest)) => Step::Go(Control::Begin(Task::TemplatePart {
+        Some((first, rest)) => Control::Begin(Task::TemplatePart {
             part: first,
             rest,
             env,
             units,
-        })),
-        None => Step::Go(Control::Give(Completion::Normal(Value::Primitive(Primitive::Text(
-            units,
-        ))))),
+        }),
+        None => Control::Give(Completion::Normal(Value::Primitive(Primitive::Text(units)))),
     }
 }
 
 /// A part of a template begins.
 #[inline(never)]
-pub fn begin_template_part(node: &Node, part: usize, rest: usize, env: Env, units: Str) -> Step
-    ensures means { (t : View) → t.tree part ≡ build t.tree node.now →
-        step_comp t result ≡ M.comp_template_parts t.program (P.more_template_part (as_template_part (build t.tree node.now)) (as_template_parts (t.tree rest))) env.index units }
-    ensures less { (w : Weights) → step_weight w result < node_weight w node.now + w rest }
+pub fn begin_template_part(
+    frames: &mut Vec<Frame>,
+    node: &Node,
+    part: usize,
+    rest: usize,
+    env: Env,
+    units: Str,
+) -> Result<Control, Memory>
+    ensures means { IfOk result (λ control. (t : View) → t.tree part ≡ build t.tree node.now →
+        ComesTo t frames.old.items (M.comp_template_parts t.program (P.more_template_part (as_template_part (build t.tree node.now)) (as_template_parts (t.tree rest))) env.index units) frames.new.items control) }
+    ensures less { IfOk result (λ control. (w : Weights) → Lighter w frames.old.items (node_weight w node.now + w rest) frames.new.items control) }
 {
     let pending = Pending::TemplatePart {
         part,
@@ -73,52 +89,69 @@ pub fn begin_template_part(node: &Node, part: usize, rest: usize, env: Env, unit
         units,
     };
     match node {
-        Node::TemplatePart { value, .. } => Step::Push(
-            Frame::Value(pending),
-            Control::Begin(Task::Evaluate { place: *value, env }),
-        ),
-        _ => Step::Push(
-            Frame::Value(pending),
-            Control::Give(Completion::Normal(Value::Primitive(Primitive::Null))),
-        ),
+        Node::TemplatePart { value, .. } => {
+            push(frames, Frame::Value(pending))?;
+            Ok(Control::Begin(Task::Evaluate { place: *value, env }))
+        }
+        _ => {
+            push(frames, Frame::Value(pending))?;
+            Ok(Control::Give(Completion::Normal(Value::Primitive(Primitive::Null))))
+        }
     }
 }
 
 /// The properties of an object that are left begin, or the object is given.
 #[inline(never)]
-pub fn begin_properties(node: &Node, env: Env, object: Object) -> Step
-    ensures means { (t : View) → step_comp t result ≡ M.comp_properties t.program (as_properties (build t.tree node.now)) env.index object.index }
-    ensures less { (w : Weights) → step_weight w result < node_weight w node.now }
+pub fn begin_properties(
+    frames: &mut Vec<Frame>,
+    node: &Node,
+    env: Env,
+    object: Object,
+) -> Result<Control, Memory>
+    ensures means { IfOk result (λ control. (t : View) → ComesTo t frames.old.items (M.comp_properties t.program (as_properties (build t.tree node.now)) env.index object.index) frames.new.items control) }
+    ensures less { IfOk result (λ control. (w : Weights) → Lighter w frames.old.items (node_weight w node.now) frames.new.items control) }
 {
     match list_of(node, ListKind::Properties) {
-        Some((first, rest)) => Step::Push(
-            Frame::Value(Pending::Property { rest, env, object }),
-            Control::Begin(Task::DefineOne {
+        Some((first, rest)) => {
+            push(
+                frames,
+                Frame::Value(Pending::Property { rest, env, object }),
+            )?;
+            Ok(Control::Begin(Task::DefineOne {
                 property: first,
                 env,
                 object,
-            }),
-        ),
-        None => Step::Go(Control::Give(Completion::Normal(Value::Object(object)))),
+            }))
+        }
+        None => Ok(Control::Give(Completion::Normal(Value::Object(object)))),
     }
 }
 
 /// A property begins.
 #[inline(never)]
-pub fn begin_property(node: &Node, place: usize, env: Env, object: Object) -> Step
-    ensures means { (t : View) → t.name place ≡ name_of node.now → t.name NOWHERE ≡ [] →
-        step_comp t result ≡ M.comp_property t.program (as_property (build t.tree node.now)) env.index object.index }
-    ensures less { (w : Weights) → step_weight w result < node_weight w node.now }
+pub fn begin_property(
+    frames: &mut Vec<Frame>,
+    node: &Node,
+    place: usize,
+    env: Env,
+    object: Object,
+) -> Result<Control, Memory>
+    ensures means { IfOk result (λ control. (t : View) → t.name place ≡ name_of node.now → t.name NOWHERE ≡ [] →
+        ComesTo t frames.old.items (M.comp_property t.program (as_property (build t.tree node.now)) env.index object.index) frames.new.items control) }
+    ensures less { IfOk result (λ control. (w : Weights) → Lighter w frames.old.items (node_weight w node.now) frames.new.items control) }
 {
     match node {
-        Node::Shorthand { .. } => Step::Push(
-            Frame::Value(Pending::As {
-                object,
-                key: Title::Name(place),
-            }),
-            Control::Do(Action::Read { name: place, env }),
-        ),
-        Node::KeyValue { key, value, .. } => Step::Go(Control::Begin(Task::Key {
+        Node::Shorthand { .. } => {
+            push(
+                frames,
+                Frame::Value(Pending::As {
+                    object,
+                    key: Title::Name(place),
+                }),
+            )?;
+            Ok(Control::Do(Action::Read { name: place, env }))
+        }
+        Node::KeyValue { key, value, .. } => Ok(Control::Begin(Task::Key {
             key: *key,
             env,
             next: Keying::Value {
@@ -126,7 +159,7 @@ pub fn begin_property(node: &Node, place: usize, env: Env, object: Object) -> St
                 object,
             },
         })),
-        Node::Method { key, function, .. } => Step::Go(Control::Begin(Task::Key {
+        Node::Method { key, function, .. } => Ok(Control::Begin(Task::Key {
             key: *key,
             env,
             next: Keying::Method {
@@ -134,13 +167,16 @@ pub fn begin_property(node: &Node, place: usize, env: Env, object: Object) -> St
                 object,
             },
         })),
-        _ => Step::Push(
-            Frame::Value(Pending::As {
-                object,
-                key: Title::Name(NOWHERE),
-            }),
-            Control::Do(Action::Read { name: NOWHERE, env }),
-        ),
+        _ => {
+            push(
+                frames,
+                Frame::Value(Pending::As {
+                    object,
+                    key: Title::Name(NOWHERE),
+                }),
+            )?;
+            Ok(Control::Do(Action::Read { name: NOWHERE, env }))
+        }
     }
 }
 
@@ -148,36 +184,37 @@ pub fn begin_property(node: &Node, place: usize, env: Env, object: Object) -> St
 #[inline(never)]
 pub fn begin_key(
     alloc: Global,
+    frames: &mut Vec<Frame>,
     node: &Node,
     place: usize,
     env: Env,
     next: Keying,
-) -> Result<Step, Memory>
-    ensures means { IfOk result (λ step. (t : View) → t.name place ≡ name_of node.now → t.name NOWHERE ≡ [] →
-        step_comp t step ≡ M.comp_key t.program (as_property_key (build t.tree node.now)) env.index (keyed t next env.index)) }
-    ensures less { IfOk result (λ step. (w : Weights) → step_weight w step < node_weight w node.now + keying_weight w next) }
+) -> Result<Control, Memory>
+    ensures means { IfOk result (λ control. (t : View) → t.name place ≡ name_of node.now → t.name NOWHERE ≡ [] →
+        ComesTo t frames.old.items (M.comp_key t.program (as_property_key (build t.tree node.now)) env.index (keyed t next env.index)) frames.new.items control) }
+    ensures less { IfOk result (λ control. (w : Weights) → Lighter w frames.old.items (node_weight w node.now + keying_weight w next) frames.new.items control) }
 {
     match node {
-        Node::NameKey { .. } => Ok(Step::Go(Control::Begin(Task::Keyed {
+        Node::NameKey { .. } => Ok(Control::Begin(Task::Keyed {
             next,
             env,
             key: Title::Name(place),
-        }))),
-        Node::StringKey { literal } => Ok(Step::Go(Control::Begin(Task::Keyed {
+        })),
+        Node::StringKey { literal } => Ok(Control::Begin(Task::Keyed {
             next,
             env,
             key: Title::Text(literal.units.copy()?),
-        }))),
+        })),
         Node::NumberKey { numeral } => begin_number_key(alloc, numeral.value(), env, next),
-        Node::ComputedKey { value } => Ok(Step::Push(
-            Frame::Value(Pending::Key { next, env }),
-            Control::Begin(Task::Evaluate { place: *value, env }),
-        )),
-        _ => Ok(Step::Go(Control::Begin(Task::Keyed {
+        Node::ComputedKey { value } => {
+            push(frames, Frame::Value(Pending::Key { next, env }))?;
+            Ok(Control::Begin(Task::Evaluate { place: *value, env }))
+        }
+        _ => Ok(Control::Begin(Task::Keyed {
             next,
             env,
             key: Title::Name(NOWHERE),
-        }))),
+        })),
     }
 }
 
@@ -187,47 +224,52 @@ fn begin_number_key(
     number: Option<i64>,
     env: Env,
     next: Keying,
-) -> Result<Step, Memory>
-    ensures means { IfOk result (λ step. (t : View) → step_comp t step ≡ M.number_key number (keyed t next env.index)) }
-    ensures less { IfOk result (λ step. (w : Weights) → step_weight w step < 20 + keying_weight w next) }
+) -> Result<Control, Memory>
+    ensures means { IfOk result (λ control. (t : View) → control_comp t control ≡ M.number_key number (keyed t next env.index)) }
+    ensures less { IfOk result (λ control. (w : Weights) → control_weight w control < 20 + keying_weight w next) }
 {
     match number {
         None => {
             drop(next);
-            Ok(Step::Go(Control::Refuse(Kind::Number)))
+            Ok(Control::Refuse(Kind::Number))
         }
-        Some(number) => Ok(Step::Go(Control::Begin(Task::Keyed {
+        Some(number) => Ok(Control::Begin(Task::Keyed {
             next,
             env,
             key: Title::Text(show_number(alloc, number)?),
-        }))),
+        })),
     }
 }
 
 /// What a key is for begins.
 #[inline(never)]
-pub fn begin_keyed(next: Keying, env: Env, key: Title) -> Result<Step, Memory>
-    ensures means { IfOk result (λ step. (t : View) → step_comp t step ≡ keyed t next env.index (units_of t key)) }
-    ensures less { IfOk result (λ step. (w : Weights) → step_weight w step < keying_weight w next) }
+pub fn begin_keyed(
+    frames: &mut Vec<Frame>,
+    next: Keying,
+    env: Env,
+    key: Title,
+) -> Result<Control, Memory>
+    ensures means { IfOk result (λ control. (t : View) → ComesTo t frames.old.items (keyed t next env.index (units_of t key)) frames.new.items control) }
+    ensures less { IfOk result (λ control. (w : Weights) → Lighter w frames.old.items (keying_weight w next) frames.new.items control) }
 {
     let title = copy_title(&key)?;
     match next {
-        Keying::Value { value, object } => Ok(Step::Push(
-            Frame::Value(Pending::As { object, key }),
-            Control::Begin(Task::EvaluateNamed {
+        Keying::Value { value, object } => {
+            push(frames, Frame::Value(Pending::As { object, key }))?;
+            Ok(Control::Begin(Task::EvaluateNamed {
                 title,
                 place: value,
                 env,
-            }),
-        )),
-        Keying::Method { function, object } => Ok(Step::Push(
-            Frame::Value(Pending::As { object, key }),
-            Control::Do(Action::Close {
+            }))
+        }
+        Keying::Method { function, object } => {
+            push(frames, Frame::Value(Pending::As { object, key }))?;
+            Ok(Control::Do(Action::Close {
                 form: Form::Method,
                 function,
                 title,
                 env,
-            }),
-        )),
+            }))
+        }
     }
 }

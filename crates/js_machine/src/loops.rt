@@ -1,16 +1,19 @@
 // Loops: their tests, what they do after a turn, and what is done in their scopes.
 
-ghost use Rattle.std.specs.Prelude.{◌≡◌, ◌<◌, ◌+◌, ◌*◌};
+ghost use Rattle.std.specs.Prelude.{◌≡◌, ◌<◌, ◌+◌, ◌*◌, IfOk};
 ghost use Rattle.js_code.specs.Node.{build};
 ghost use Rattle.js_code.specs.Part.{as_for_target, as_stmt};
 ghost use Rattle.js_host.specs.Iteration.{plain_iteration};
 ghost use Rattle.js_meaning.specs.Meaning as M;
-ghost use Rattle.js_machine.specs.private.Config.{View, name_of, labels_of, expr_or, stmt_at, again, pass, scoped_comp, step_comp};
-ghost use Rattle.js_machine.specs.private.Weight.{Weights, node_weight, scoped_weight, step_weight, test_weight};
+ghost use Rattle.js_machine.specs.private.Config.{View, name_of, labels_of, expr_or, stmt_at, again, pass, scoped_comp, control_comp};
+ghost use Rattle.js_machine.specs.private.Weight.{Weights, node_weight, scoped_weight, test_weight, control_weight};
+ghost use Rattle.js_machine.specs.private.Frames.{ComesTo, Lighter};
 
-use crate::data::{Action, Control, Entry, Frame, Pending, Step, Task};
+use crate::data::{Action, Control, Entry, Frame, Pending, Task};
+use crate::frames::push;
 use crate::parts::{Form, Labels, Loop, Referring, Scoped, Title};
 use crate::statements::bind_to;
+use items::Memory;
 use js_code::Node;
 use js_heap::Env;
 use js_host::Iteration;
@@ -18,49 +21,67 @@ use js_value::{Complaint, Value};
 
 /// The test of a loop begins: without one there is always another turn.
 #[inline(never)]
-pub fn begin_test(test: Option<usize>, statement: usize, labels: Labels, env: Env) -> Step
-    ensures means { (t : View) → step_comp t result ≡ M.turn_if t.program (expr_or t test) (stmt_at t statement) (labels_of t labels) env.index }
-    ensures less { (w : Weights) → step_weight w result < test_weight w test }
+pub fn begin_test(
+    frames: &mut Vec<Frame>,
+    test: Option<usize>,
+    statement: usize,
+    labels: Labels,
+    env: Env,
+) -> Result<Control, Memory>
+    ensures means { IfOk result (λ control. (t : View) → ComesTo t frames.old.items (M.turn_if t.program (expr_or t test) (stmt_at t statement) (labels_of t labels) env.index) frames.new.items control) }
+    ensures less { IfOk result (λ control. (w : Weights) → Lighter w frames.old.items (test_weight w test) frames.new.items control) }
 {
     match test {
-        None => Step::Go(Control::Enter(Entry::Turn {
+        None => Ok(Control::Enter(Entry::Turn {
             statement,
             labels,
             env,
         })),
-        Some(test) => Step::Push(
-            Frame::Value(Pending::Turn {
-                statement,
-                labels,
-                env,
-            }),
-            Control::Begin(Task::Evaluate { place: test, env }),
-        ),
+        Some(test) => {
+            push(
+                frames,
+                Frame::Value(Pending::Turn {
+                    statement,
+                    labels,
+                    env,
+                }),
+            )?;
+            Ok(Control::Begin(Task::Evaluate { place: test, env }))
+        }
     }
 }
 
 /// A loop goes on after a turn.
 #[inline(never)]
-pub fn begin_again(node: &Node, statement: usize, labels: Labels, env: Env) -> Step
-    ensures means { (t : View) → t.tree statement ≡ build t.tree node.now →
-        step_comp t result ≡ again t (as_stmt (build t.tree node.now)) (labels_of t labels) env.index }
-    ensures less { (w : Weights) → step_weight w result < w statement + node_weight w node.now }
+pub fn begin_again(
+    frames: &mut Vec<Frame>,
+    node: &Node,
+    statement: usize,
+    labels: Labels,
+    env: Env,
+) -> Result<Control, Memory>
+    ensures means { IfOk result (λ control. (t : View) → t.tree statement ≡ build t.tree node.now →
+        ComesTo t frames.old.items (again t (as_stmt (build t.tree node.now)) (labels_of t labels) env.index) frames.new.items control) }
+    ensures less { IfOk result (λ control. (w : Weights) → Lighter w frames.old.items (w statement + node_weight w node.now) frames.new.items control) }
 {
     match node {
-        Node::DoWhile { test, .. } => Step::Push(
-            Frame::Value(Pending::Turn {
-                statement,
-                labels,
-                env,
-            }),
-            Control::Begin(Task::Evaluate { place: *test, env }),
-        ),
+        Node::DoWhile { test, .. } => {
+            push(
+                frames,
+                Frame::Value(Pending::Turn {
+                    statement,
+                    labels,
+                    env,
+                }),
+            )?;
+            Ok(Control::Begin(Task::Evaluate { place: *test, env }))
+        }
         Node::For {
             init,
             test,
             update,
             ..
-        } => Step::Go(Control::Do(Action::Anew {
+        } => Ok(Control::Do(Action::Anew {
             init: *init,
             next: Scoped::Update {
                 update: *update,
@@ -70,7 +91,7 @@ pub fn begin_again(node: &Node, statement: usize, labels: Labels, env: Env) -> S
             },
             env,
         })),
-        _ => Step::Go(Control::Begin(Task::Execute {
+        _ => Ok(Control::Begin(Task::Execute {
             place: statement,
             labels,
             env,
@@ -80,16 +101,16 @@ pub fn begin_again(node: &Node, statement: usize, labels: Labels, env: Env) -> S
 
 /// The target of a loop takes the next value.
 #[inline(never)]
-pub fn begin_take(node: &Node, round: Loop, value: Value, rest: Iteration) -> Step
+pub fn begin_take(node: &Node, round: Loop, value: Value, rest: Iteration) -> Control
     ensures means { (t : View) → t.name round.target ≡ name_of node.now →
-        step_comp t result ≡ M.takes t.program (as_for_target (build t.tree node.now)) round.env.index value (λ inner. pass t round inner (plain_iteration rest)) }
-    ensures less { (w : Weights) → step_weight w result < node_weight w node.now }
+        control_comp t result ≡ M.takes t.program (as_for_target (build t.tree node.now)) round.env.index value (λ inner. pass t round inner (plain_iteration rest)) }
+    ensures less { (w : Weights) → control_weight w result < node_weight w node.now }
 {
     let env = round.env;
     match node {
         Node::TargetDeclaration { kind, .. } => {
             let name = round.target;
-            Step::Go(Control::Do(Action::EnterLoop {
+            Control::Do(Action::EnterLoop {
                 next: Scoped::Target {
                     kind: *kind,
                     name,
@@ -98,22 +119,22 @@ pub fn begin_take(node: &Node, round: Loop, value: Value, rest: Iteration) -> St
                     rest,
                 },
                 env,
-            }))
+            })
         }
-        Node::TargetExpression { expression } => Step::Go(Control::Begin(Task::Refer {
+        Node::TargetExpression { expression } => Control::Begin(Task::Refer {
             place: *expression,
             env,
             next: Referring::Take { value, round, rest },
-        })),
-        _ => Step::Go(Control::Do(Action::Throw(Complaint::NotAssignable))),
+        }),
+        _ => Control::Do(Action::Throw(Complaint::NotAssignable)),
     }
 }
 
 /// What is done in an environment begins.
 #[inline(never)]
-pub fn begin_within(next: Scoped, env: Env) -> Step
-    ensures means { (t : View) → step_comp t result ≡ scoped_comp t next env.index }
-    ensures less { (w : Weights) → step_weight w result < scoped_weight w next }
+pub fn begin_within(frames: &mut Vec<Frame>, next: Scoped, env: Env) -> Result<Control, Memory>
+    ensures means { IfOk result (λ control. (t : View) → ComesTo t frames.old.items (scoped_comp t next env.index) frames.new.items control) }
+    ensures less { IfOk result (λ control. (w : Weights) → Lighter w frames.old.items (scoped_weight w next) frames.new.items control) }
 {
     match next {
         Scoped::For {
@@ -121,46 +142,52 @@ pub fn begin_within(next: Scoped, env: Env) -> Step
             test,
             statement,
             labels,
-        } => Step::Push(
-            Frame::Value(Pending::Started {
-                init,
-                test,
-                statement,
-                labels,
-                env,
-            }),
-            Control::Begin(Task::Start { init, env }),
-        ),
+        } => {
+            push(
+                frames,
+                Frame::Value(Pending::Started {
+                    init,
+                    test,
+                    statement,
+                    labels,
+                    env,
+                }),
+            )?;
+            Ok(Control::Begin(Task::Start { init, env }))
+        }
         Scoped::Subject {
             keys,
             subject,
             round,
-        } => Step::Push(
-            Frame::Value(Pending::Subject { keys, round }),
-            Control::Begin(Task::Evaluate {
+        } => {
+            push(frames, Frame::Value(Pending::Subject { keys, round }))?;
+            Ok(Control::Begin(Task::Evaluate {
                 place: subject,
                 env,
-            }),
-        ),
+            }))
+        }
         Scoped::Target {
             kind,
             name,
             value,
             round,
             rest,
-        } => Step::Push(
-            Frame::Value(Pending::Taken {
-                round,
-                inner: env,
-                rest,
-            }),
-            bind_to(kind, name, env, value),
-        ),
+        } => {
+            push(
+                frames,
+                Frame::Value(Pending::Taken {
+                    round,
+                    inner: env,
+                    rest,
+                }),
+            )?;
+            Ok(bind_to(kind, name, env, value))
+        }
         Scoped::Turn {
             test,
             statement,
             labels,
-        } => Step::Go(Control::Begin(Task::Test {
+        } => Ok(Control::Begin(Task::Test {
             test,
             statement,
             labels,
@@ -171,33 +198,36 @@ pub fn begin_within(next: Scoped, env: Env) -> Step
             test,
             statement,
             labels,
-        } => Step::Push(
-            Frame::Value(Pending::Updated {
-                test,
-                statement,
-                labels,
-                env,
-            }),
-            Control::Begin(Task::EvaluateIf { place: update, env }),
-        ),
-        Scoped::Switch { cases, value } => Step::Push(
-            Frame::AfterSwitch,
-            Control::Begin(Task::Select {
+        } => {
+            push(
+                frames,
+                Frame::Value(Pending::Updated {
+                    test,
+                    statement,
+                    labels,
+                    env,
+                }),
+            )?;
+            Ok(Control::Begin(Task::EvaluateIf { place: update, env }))
+        }
+        Scoped::Switch { cases, value } => {
+            push(frames, Frame::AfterSwitch)?;
+            Ok(Control::Begin(Task::Select {
                 cases,
                 all: cases,
                 value,
                 env,
-            }),
-        ),
-        Scoped::Block { block } => Step::Go(Control::Do(Action::EnterBlock { block, env })),
-        Scoped::OwnName { name, function } => Step::Push(
-            Frame::Value(Pending::OwnName { name, env }),
-            Control::Do(Action::Close {
+            }))
+        }
+        Scoped::Block { block } => Ok(Control::Do(Action::EnterBlock { block, env })),
+        Scoped::OwnName { name, function } => {
+            push(frames, Frame::Value(Pending::OwnName { name, env }))?;
+            Ok(Control::Do(Action::Close {
                 form: Form::Ordinary,
                 function,
                 title: Title::Name(name),
                 env,
-            }),
-        ),
+            }))
+        }
     }
 }

@@ -4,10 +4,13 @@ ghost use Rattle.std.specs.Prelude.{◌≡◌, ◌<◌, ◌+◌, ◌++◌, IfOk,
 ghost use Rattle.js_value.specs.UnaryOperators.{stepped};
 ghost use Rattle.js_meaning.specs.Effects.{handle};
 ghost use Rattle.js_meaning.specs.Meaning as M;
-ghost use Rattle.js_machine.specs.private.Config.{View, decides_right, pending_comp, reference_of, step_comp};
-ghost use Rattle.js_machine.specs.private.Weight.{Weights, pending_weight, step_weight};
+ghost use Rattle.js_machine.specs.private.Config.{View, decides_right, pending_comp, reference_of, control_comp};
+ghost use Rattle.js_machine.specs.private.Weight.{Weights, pending_weight, control_weight};
+ghost use Rattle.js_machine.specs.private.Frames.{ComesTo, Lighter};
 
-use crate::data::{Action, Control, Entry, Frame, Pending, Step, Task};
+use crate::clauses::begin_from;
+use crate::data::{Action, Control, Entry, Frame, Pending, Task};
+use crate::frames::push;
 use crate::parts::{Keying, Labels, Loop, Reference, Title};
 use crate::references::put;
 use crate::steps::{halted, undefined};
@@ -22,44 +25,50 @@ use std::alloc::Global;
 
 /// One of two expressions.
 #[inline(never)]
-pub fn choose(holds: usize, fails: usize, env: Env, value: &Value) -> Step
-    ensures means { (t : View) → step_comp t result ≡ pending_comp t (Pending.Conditional holds fails env) value.now }
-    ensures less { (w : Weights) → step_weight w result < w holds + w fails + 1 }
+pub fn choose(holds: usize, fails: usize, env: Env, value: &Value) -> Control
+    ensures means { (t : View) → control_comp t result ≡ pending_comp t (Pending.Conditional holds fails env) value.now }
+    ensures less { (w : Weights) → control_weight w result < w holds + w fails + 1 }
 {
     if to_boolean(value) {
-        Step::Go(Control::Begin(Task::Evaluate { place: holds, env }))
+        Control::Begin(Task::Evaluate { place: holds, env })
     } else {
-        Step::Go(Control::Begin(Task::Evaluate { place: fails, env }))
+        Control::Begin(Task::Evaluate { place: fails, env })
     }
 }
 
 /// One of two statements, of which the second may be missing.
 #[inline(never)]
-pub fn choose_statement(alloc: Global, holds: usize, fails: usize, env: Env, value: &Value) -> Step
-    ensures means { (t : View) → step_comp t result ≡ pending_comp t (Pending.Choose holds fails env) value.now }
-    ensures less { (w : Weights) → step_weight w result < w holds + w fails + 2 }
+pub fn choose_statement(
+    alloc: Global,
+    holds: usize,
+    fails: usize,
+    env: Env,
+    value: &Value,
+) -> Control
+    ensures means { (t : View) → control_comp t result ≡ pending_comp t (Pending.Choose holds fails env) value.now }
+    ensures less { (w : Weights) → control_weight w result < w holds + w fails + 2 }
 {
     if to_boolean(value) {
-        Step::Go(Control::Begin(Task::Execute {
+        Control::Begin(Task::Execute {
             place: holds,
             labels: Labels::new(alloc),
             env,
-        }))
+        })
     } else {
-        Step::Go(Control::Begin(Task::ExecuteIf { place: fails, env }))
+        Control::Begin(Task::ExecuteIf { place: fails, env })
     }
 }
 
 /// The right operand of a logical operator, or the left one.
 #[inline(never)]
-pub fn logical(operator: LogicalOperator, right: usize, env: Env, value: Value) -> Step
-    ensures means { (t : View) → step_comp t result ≡ pending_comp t (Pending.Logical operator right env) value }
-    ensures less { (w : Weights) → step_weight w result < w right + 1 }
+pub fn logical(operator: LogicalOperator, right: usize, env: Env, value: Value) -> Control
+    ensures means { (t : View) → control_comp t result ≡ pending_comp t (Pending.Logical operator right env) value }
+    ensures less { (w : Weights) → control_weight w result < w right + 1 }
 {
     if goes_on(operator, &value) {
-        Step::Go(Control::Begin(Task::Evaluate { place: right, env }))
+        Control::Begin(Task::Evaluate { place: right, env })
     } else {
-        Step::Go(Control::Give(Completion::Normal(value)))
+        Control::Give(Completion::Normal(value))
     }
 }
 
@@ -99,16 +108,16 @@ fn is_nullish_primitive(primitive: &Primitive) -> bool
 
 /// A turn of a loop, or its end.
 #[inline(never)]
-pub fn turn(statement: usize, labels: Labels, env: Env, value: &Value) -> Step
-    ensures means { (t : View) → step_comp t result ≡ pending_comp t (Pending.Turn statement labels env) value.now }
-    ensures less { (w : Weights) → step_weight w result ≡ 0 }
+pub fn turn(statement: usize, labels: Labels, env: Env, value: &Value) -> Control
+    ensures means { (t : View) → control_comp t result ≡ pending_comp t (Pending.Turn statement labels env) value.now }
+    ensures less { (w : Weights) → control_weight w result ≡ 0 }
 {
     if to_boolean(value) {
-        Step::Go(Control::Enter(Entry::Turn {
+        Control::Enter(Entry::Turn {
             statement,
             labels,
             env,
-        }))
+        })
     } else {
         undefined()
     }
@@ -117,42 +126,45 @@ pub fn turn(statement: usize, labels: Labels, env: Env, value: &Value) -> Step
 /// A number one more or one less, for a reference: the new number is given or the old one.
 #[inline(never)]
 pub fn update(
+    frames: &mut Vec<Frame>,
     prefix: bool,
     operator: UpdateOperator,
     reference: Reference,
     env: Env,
     value: &Value,
-) -> Step
-    ensures means { (t : View) → step_comp t result ≡ pending_comp t (Pending.Update prefix operator reference env) value.now }
-    ensures less { (w : Weights) → step_weight w result < 4 }
+) -> Result<Control, Memory>
+    ensures means { IfOk result (λ control. (t : View) → ComesTo t frames.old.items (pending_comp t (Pending.Update prefix operator reference env) value.now) frames.new.items control) }
+    ensures less { IfOk result (λ control. (w : Weights) → Lighter w frames.old.items 4 frames.new.items control) }
 {
     match to_number(value) {
-        Ok(old) => update_number(prefix, operator, reference, env, old),
-        Err(kind) => Step::Go(Control::Refuse(kind)),
+        Ok(old) => update_number(frames, prefix, operator, reference, env, old),
+        Err(kind) => Ok(Control::Refuse(kind)),
     }
 }
 
 // The same of a number.
 fn update_number(
+    frames: &mut Vec<Frame>,
     prefix: bool,
     operator: UpdateOperator,
     reference: Reference,
     env: Env,
     old: i64,
-) -> Step
-    ensures means { (t : View) → step_comp t result ≡ M.numbered (stepped operator old) (λ new.
-        handle (M.put_value env.index (reference_of t reference) (M.number_value new)) (M.with_value (λ w. M.give (M.number_value (if prefix then new else old))))) }
-    ensures less { (w : Weights) → step_weight w result < 4 }
+) -> Result<Control, Memory>
+    ensures means { IfOk result (λ control. (t : View) → ComesTo t frames.old.items (M.numbered (stepped operator old) (λ new.
+        handle (M.put_value env.index (reference_of t reference) (M.number_value new)) (M.with_value (λ w. M.give (M.number_value (if prefix then new else old)))))) frames.new.items control) }
+    ensures less { IfOk result (λ control. (w : Weights) → Lighter w frames.old.items 4 frames.new.items control) }
 {
     match step(operator, old) {
         Ok(new) => {
             let given = chosen(prefix, new, old);
-            Step::Push(
+            push(
+                frames,
                 Frame::Value(Pending::Instead(Completion::Normal(given))),
-                put(reference, env, Value::Primitive(Primitive::Number(new))),
-            )
+            )?;
+            Ok(put(reference, env, Value::Primitive(Primitive::Number(new))))
         }
-        Err(kind) => Step::Go(Control::Refuse(kind)),
+        Err(kind) => Ok(Control::Refuse(kind)),
     }
 }
 
@@ -176,17 +188,17 @@ pub fn template_text(
     env: Env,
     units: Str,
     value: &Value,
-) -> Result<Step, Memory>
-    ensures means { IfOk result (λ step. (t : View) → step_comp t step ≡ pending_comp t (Pending.TemplatePart part rest env units) value.now) }
-    ensures less { IfOk result (λ step. (w : Weights) → step_weight w step < w rest + 2) }
+) -> Result<Control, Memory>
+    ensures means { IfOk result (λ control. (t : View) → control_comp t control ≡ pending_comp t (Pending.TemplatePart part rest env units) value.now) }
+    ensures less { IfOk result (λ control. (w : Weights) → control_weight w control < w rest + 2) }
 {
     match text(alloc, value) {
-        Ok(inner) => Ok(Step::Go(Control::Begin(Task::TemplateText {
+        Ok(inner) => Ok(Control::Begin(Task::TemplateText {
             part,
             rest,
             env,
             units: joined(alloc, &units, &inner)?,
-        }))),
+        })),
         Err(halt) => halted(halt),
     }
 }
@@ -203,16 +215,16 @@ pub fn joined(alloc: Global, left: &Str, right: &Str) -> Result<Str, Memory>
 
 /// A value as the key of a property.
 #[inline(never)]
-pub fn key_text(alloc: Global, next: Keying, env: Env, value: &Value) -> Result<Step, Memory>
-    ensures means { IfOk result (λ step. (t : View) → step_comp t step ≡ pending_comp t (Pending.Key next env) value.now) }
-    ensures less { IfOk result (λ step. (w : Weights) → step_weight w step < pending_weight w (Pending.Key next env)) }
+pub fn key_text(alloc: Global, next: Keying, env: Env, value: &Value) -> Result<Control, Memory>
+    ensures means { IfOk result (λ control. (t : View) → control_comp t control ≡ pending_comp t (Pending.Key next env) value.now) }
+    ensures less { IfOk result (λ control. (w : Weights) → control_weight w control < pending_weight w (Pending.Key next env)) }
 {
     match text(alloc, value) {
-        Ok(key) => Ok(Step::Go(Control::Begin(Task::Keyed {
+        Ok(key) => Ok(Control::Begin(Task::Keyed {
             next,
             env,
             key: Title::Text(key),
-        }))),
+        })),
         Err(halt) => {
             drop(next);
             halted(halt)
@@ -222,22 +234,22 @@ pub fn key_text(alloc: Global, next: Keying, env: Env, value: &Value) -> Result<
 
 /// What a loop goes through is found.
 #[inline(never)]
-pub fn subject(keys: bool, round: Loop, value: Value) -> Step
-    ensures means { (t : View) → step_comp t result ≡ pending_comp t (Pending.Subject keys round) value }
-    ensures less { (w : Weights) → step_weight w result < w round.target + 3 }
+pub fn subject(keys: bool, round: Loop, value: Value) -> Control
+    ensures means { (t : View) → control_comp t result ≡ pending_comp t (Pending.Subject keys round) value }
+    ensures less { (w : Weights) → control_weight w result < w round.target + 3 }
 {
     if keys {
-        Step::Go(Control::Do(Action::GoThroughKeys { round, value }))
+        Control::Do(Action::GoThroughKeys { round, value })
     } else {
-        Step::Go(Control::Do(Action::GoThroughItems { round, value }))
+        Control::Do(Action::GoThroughItems { round, value })
     }
 }
 
 /// A turn of a loop whose target has taken its value.
 #[inline(never)]
-pub fn take_pass(round: Loop, inner: Env, rest: Iteration) -> Step
-    ensures means { (t : View) (value : Value) → step_comp t result ≡ pending_comp t (Pending.Taken round inner rest) value }
-    ensures less { (w : Weights) → step_weight w result ≡ 0 }
+pub fn take_pass(round: Loop, inner: Env, rest: Iteration) -> Control
+    ensures means { (t : View) (value : Value) → control_comp t result ≡ pending_comp t (Pending.Taken round inner rest) value }
+    ensures less { (w : Weights) → control_weight w result ≡ 0 }
 {
     let Loop {
         statement,
@@ -245,39 +257,34 @@ pub fn take_pass(round: Loop, inner: Env, rest: Iteration) -> Step
         labels,
         env,
     } = round;
-    Step::Go(Control::Enter(Entry::Pass {
+    Control::Enter(Entry::Pass {
         statement,
         labels,
         env,
         inner,
         rest,
-    }))
+    })
 }
 
 /// The clause whose test is there, or the clauses after it.
 #[inline(never)]
 pub fn tested(
+    frames: &mut Vec<Frame>,
     statements: usize,
     rest: usize,
     all: usize,
     sought: Value,
     env: Env,
     value: &Value,
-) -> Step
-    ensures means { (t : View) → step_comp t result ≡ pending_comp t (Pending.Tested statements rest all sought env) value.now }
-    ensures less { (w : Weights) → step_weight w result < w statements + w rest + w all + 3 }
+) -> Result<Control, Memory>
+    ensures means { IfOk result (λ control. (t : View) → ComesTo t frames.old.items (pending_comp t (Pending.Tested statements rest all sought env) value.now) frames.new.items control) }
+    ensures less { IfOk result (λ control. (w : Weights) → Lighter w frames.old.items (w statements + w rest + w all + 3) frames.new.items control) }
 {
     if strictly_equal(&sought, value) {
         drop(sought);
-        Step::Push(
-            Frame::Value(Pending::Fallen { rest, env }),
-            Control::Begin(Task::ExecuteAll {
-                place: statements,
-                env,
-            }),
-        )
+        begin_from(frames, statements, rest, env)
     } else {
-        Step::Go(Control::Begin(Task::Select {
+        Ok(Control::Begin(Task::Select {
             cases: rest,
             all,
             value: sought,
@@ -288,17 +295,17 @@ pub fn tested(
 
 /// The parameters after one that took its argument.
 #[inline(never)]
-pub fn next_param(rest: usize, arguments: Items<Value>, next: usize, env: Env) -> Step
-    ensures means { (t : View) (value : Value) → step_comp t result ≡ pending_comp t (Pending.NextParam rest arguments next env) value }
-    ensures less { (w : Weights) → step_weight w result < w rest + 1 }
+pub fn next_param(rest: usize, arguments: Items<Value>, next: usize, env: Env) -> Control
+    ensures means { (t : View) (value : Value) → control_comp t result ≡ pending_comp t (Pending.NextParam rest arguments next env) value }
+    ensures less { (w : Weights) → control_weight w result < w rest + 1 }
 {
     let next = next_place(&arguments, next);
-    Step::Go(Control::Begin(Task::Bind {
+    Control::Begin(Task::Bind {
         params: rest,
         arguments,
         next,
         env,
-    }))
+    })
 }
 
 // The place of the next argument, if there is one more.

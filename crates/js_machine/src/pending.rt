@@ -1,10 +1,12 @@
 // How what waits for a value goes on with it.
 
-ghost use Rattle.std.specs.Prelude.{◌≡◌, ◌<◌, IfOk};
-ghost use Rattle.js_machine.specs.private.Config.{View, step_comp, pending_comp};
-ghost use Rattle.js_machine.specs.private.Weight.{Weights, step_weight, pending_weight};
+ghost use Rattle.std.specs.Prelude.{IfOk};
+ghost use Rattle.js_machine.specs.private.Config.{View, pending_comp};
+ghost use Rattle.js_machine.specs.private.Weight.{Weights, pending_weight};
+ghost use Rattle.js_machine.specs.private.Frames.{ComesTo, Lighter};
 
-use crate::data::{Action, Control, Entry, Frame, Pending, Step, Task};
+use crate::data::{Action, Control, Entry, Frame, Pending, Task};
+use crate::frames::push;
 use crate::operators::{
     choose, choose_statement, key_text, logical, next_param, subject, take_pass, template_text,
     tested, turn, update,
@@ -20,34 +22,39 @@ use std::alloc::Global;
 
 /// What waits for a value goes on with it.
 #[inline(never)]
-pub fn go_on(alloc: Global, pending: Pending, value: Value) -> Result<Step, Memory>
-    ensures means { IfOk result (λ step. (t : View) → step_comp t step ≡ pending_comp t pending value) }
-    ensures less { IfOk result (λ step. (w : Weights) → step_weight w step < pending_weight w pending) }
+pub fn go_on(
+    alloc: Global,
+    frames: &mut Vec<Frame>,
+    pending: Pending,
+    value: Value,
+) -> Result<Control, Memory>
+    ensures means { IfOk result (λ control. (t : View) → ComesTo t frames.old.items (pending_comp t pending value) frames.new.items control) }
+    ensures less { IfOk result (λ control. (w : Weights) → Lighter w frames.old.items (pending_weight w pending) frames.new.items control) }
 {
     match pending {
-        Pending::NamedMember { name } => Ok(Step::Go(Control::Do(Action::GetMember {
+        Pending::NamedMember { name } => Ok(Control::Do(Action::GetMember {
             base: value,
             key: MemberKey::Name(name),
-        }))),
-        Pending::MemberObject { key, env } => Ok(Step::Push(
-            Frame::Value(Pending::MemberKey { base: value }),
-            Control::Begin(Task::Evaluate { place: key, env }),
-        )),
-        Pending::MemberKey { base } => Ok(Step::Go(Control::Do(Action::GetMember {
+        })),
+        Pending::MemberObject { key, env } => {
+            push(frames, Frame::Value(Pending::MemberKey { base: value }))?;
+            Ok(Control::Begin(Task::Evaluate { place: key, env }))
+        }
+        Pending::MemberKey { base } => Ok(Control::Do(Action::GetMember {
             base,
             key: MemberKey::Value(value),
-        }))),
-        Pending::Constructor { arguments, env } => Ok(Step::Go(Control::Begin(Task::Gather {
+        })),
+        Pending::Constructor { arguments, env } => Ok(Control::Begin(Task::Gather {
             place: arguments,
             env,
             values: Items::new(alloc),
             gathering: Gathering::Construct { maker: value },
-        }))),
+        })),
         Pending::Callee {
             arguments,
             env,
             this,
-        } => Ok(Step::Go(Control::Begin(Task::Gather {
+        } => Ok(Control::Begin(Task::Gather {
             place: arguments,
             env,
             values: Items::new(alloc),
@@ -55,7 +62,7 @@ pub fn go_on(alloc: Global, pending: Pending, value: Value) -> Result<Step, Memo
                 callee: value,
                 this,
             },
-        }))),
+        })),
         Pending::Item {
             rest,
             env,
@@ -63,127 +70,131 @@ pub fn go_on(alloc: Global, pending: Pending, value: Value) -> Result<Step, Memo
             gathering,
         } => {
             values.push(value)?;
-            Ok(Step::Go(Control::Begin(Task::Gather {
+            Ok(Control::Begin(Task::Gather {
                 place: rest,
                 env,
                 values,
                 gathering,
-            })))
+            }))
         }
         Pending::Operand { operator } => {
-            Ok(Step::Go(Control::Do(Action::OperateUnary { operator, value })))
+            Ok(Control::Do(Action::OperateUnary { operator, value }))
         }
         Pending::Left {
             operator,
             right,
             env,
-        } => Ok(Step::Push(
-            Frame::Value(Pending::Right {
-                operator,
-                left: value,
-            }),
-            Control::Begin(Task::Evaluate { place: right, env }),
-        )),
-        Pending::Right { operator, left } => Ok(Step::Go(Control::Do(Action::Operate {
+        } => {
+            push(
+                frames,
+                Frame::Value(Pending::Right {
+                    operator,
+                    left: value,
+                }),
+            )?;
+            Ok(Control::Begin(Task::Evaluate { place: right, env }))
+        }
+        Pending::Right { operator, left } => Ok(Control::Do(Action::Operate {
             operator,
             left,
             right: value,
-        }))),
+        })),
         Pending::Logical {
             operator,
             right,
             env,
         } => Ok(logical(operator, right, env, value)),
         Pending::Conditional { holds, fails, env } => Ok(choose(holds, fails, env, &value)),
-        Pending::Comma { right, env } => Ok(Step::Go(Control::Begin(Task::Evaluate {
-            place: right,
-            env,
-        }))),
-        Pending::ReferNamed { name, env, next } => Ok(Step::Go(Control::Begin(Task::Referred {
+        Pending::Comma { right, env } => Ok(Control::Begin(Task::Evaluate { place: right, env })),
+        Pending::ReferNamed { name, env, next } => Ok(Control::Begin(Task::Referred {
             next,
             env,
             reference: Reference::Member {
                 base: value,
                 key: MemberKey::Name(name),
             },
-        }))),
-        Pending::ReferObject { key, env, next } => Ok(Step::Push(
-            Frame::Value(Pending::ReferKey {
-                base: value,
-                env,
-                next,
-            }),
-            Control::Begin(Task::Evaluate { place: key, env }),
-        )),
-        Pending::ReferKey { base, env, next } => Ok(Step::Go(Control::Begin(Task::Referred {
+        })),
+        Pending::ReferObject { key, env, next } => {
+            push(
+                frames,
+                Frame::Value(Pending::ReferKey {
+                    base: value,
+                    env,
+                    next,
+                }),
+            )?;
+            Ok(Control::Begin(Task::Evaluate { place: key, env }))
+        }
+        Pending::ReferKey { base, env, next } => Ok(Control::Begin(Task::Referred {
             next,
             env,
             reference: Reference::Member {
                 base,
                 key: MemberKey::Value(value),
             },
-        }))),
-        Pending::Put { reference, env } => Ok(Step::Go(put(reference, env, value))),
+        })),
+        Pending::Put { reference, env } => Ok(put(reference, env, value)),
         Pending::Old {
             operator,
             value: right,
             reference,
             env,
-        } => Ok(Step::Push(
-            Frame::Value(Pending::New {
-                operator,
-                left: value,
-                reference,
-                env,
-            }),
-            Control::Begin(Task::Evaluate { place: right, env }),
-        )),
+        } => {
+            push(
+                frames,
+                Frame::Value(Pending::New {
+                    operator,
+                    left: value,
+                    reference,
+                    env,
+                }),
+            )?;
+            Ok(Control::Begin(Task::Evaluate { place: right, env }))
+        }
         Pending::New {
             operator,
             left,
             reference,
             env,
-        } => Ok(Step::Push(
-            Frame::Value(Pending::Put { reference, env }),
-            Control::Do(Action::Operate {
+        } => {
+            push(frames, Frame::Value(Pending::Put { reference, env }))?;
+            Ok(Control::Do(Action::Operate {
                 operator,
                 left,
                 right: value,
-            }),
-        )),
+            }))
+        }
         Pending::Update {
             prefix,
             operator,
             reference,
             env,
-        } => Ok(update(prefix, operator, reference, env, &value)),
-        Pending::Instead(completion) => Ok(Step::Go(Control::Give(completion))),
+        } => update(frames, prefix, operator, reference, env, &value),
+        Pending::Instead(completion) => Ok(Control::Give(completion)),
         Pending::TemplatePart {
             part,
             rest,
             env,
             units,
         } => template_text(alloc, part, rest, env, units, &value),
-        Pending::Property { rest, env, object } => Ok(Step::Go(Control::Begin(Task::DefineAll {
+        Pending::Property { rest, env, object } => Ok(Control::Begin(Task::DefineAll {
             properties: rest,
             env,
             object,
-        }))),
-        Pending::As { object, key } => {
-            Ok(Step::Go(Control::Do(Action::Define { object, key, value })))
-        }
+        })),
+        Pending::As { object, key } => { Ok(Control::Do(Action::Define { object, key, value })) }
         Pending::Key { next, env } => key_text(alloc, next, env, &value),
-        Pending::BindTo { kind, name, env } => Ok(Step::Go(bind_to(kind, name, env, value))),
-        Pending::Declarator { kind, rest, env } => Ok(Step::Go(Control::Begin(Task::Declare {
+        Pending::BindTo { kind, name, env } => Ok(bind_to(kind, name, env, value)),
+        Pending::Declarator { kind, rest, env } => Ok(Control::Begin(Task::Declare {
             kind,
             declarators: rest,
             env,
-        }))),
+        })),
         Pending::Discard => Ok(undefined()),
-        Pending::Statement { rest, env } => Ok(Step::Go(Control::Begin(Task::ExecuteAll {
+        Pending::Statement { rest, env } => Ok(Control::Begin(Task::ExecuteAll {
             place: rest,
             env,
-        }))),
+        })),
         Pending::Choose { holds, fails, env } => Ok(choose_statement(
             alloc, holds, fails, env, &value,
         )),
@@ -198,7 +209,7 @@ pub fn go_on(alloc: Global, pending: Pending, value: Value) -> Result<Step, Memo
             statement,
             labels,
             env,
-        } => Ok(Step::Go(Control::Do(Action::Anew {
+        } => Ok(Control::Do(Action::Anew {
             init,
             next: Scoped::Turn {
                 test,
@@ -206,22 +217,22 @@ pub fn go_on(alloc: Global, pending: Pending, value: Value) -> Result<Step, Memo
                 labels,
             },
             env,
-        }))),
+        })),
         Pending::Updated {
             test,
             statement,
             labels,
             env,
-        } => Ok(Step::Go(Control::Begin(Task::Test {
+        } => Ok(Control::Begin(Task::Test {
             test,
             statement,
             labels,
             env,
-        }))),
+        })),
         Pending::Subject { keys, round } => Ok(subject(keys, round, value)),
         Pending::Taken { round, inner, rest } => Ok(take_pass(round, inner, rest)),
         Pending::Switch { cases, env } => {
-            Ok(Step::Go(Control::Do(Action::EnterSwitch { cases, value, env })))
+            Ok(Control::Do(Action::EnterSwitch { cases, value, env }))
         }
         Pending::Tested {
             statements,
@@ -229,15 +240,12 @@ pub fn go_on(alloc: Global, pending: Pending, value: Value) -> Result<Step, Memo
             all,
             value: sought,
             env,
-        } => Ok(tested(statements, rest, all, sought, env, &value)),
-        Pending::Fallen { rest, env } => Ok(Step::Go(Control::Begin(Task::Fall {
-            cases: rest,
-            env,
-        }))),
-        Pending::Return => Ok(Step::Go(Control::Give(Completion::Return(value)))),
-        Pending::Throw => Ok(Step::Go(Control::Give(Completion::Throw(value)))),
+        } => tested(frames, statements, rest, all, sought, env, &value),
+        Pending::Fallen { rest, env } => Ok(Control::Begin(Task::Fall { cases: rest, env })),
+        Pending::Return => Ok(Control::Give(Completion::Return(value))),
+        Pending::Throw => Ok(Control::Give(Completion::Throw(value))),
         Pending::OwnName { name, env } => {
-            Ok(Step::Go(Control::Do(Action::Initialize { name, env, value })))
+            Ok(Control::Do(Action::Initialize { name, env, value }))
         }
         Pending::Param {
             param,
@@ -245,27 +253,28 @@ pub fn go_on(alloc: Global, pending: Pending, value: Value) -> Result<Step, Memo
             arguments,
             next,
             env,
-        } => Ok(Step::Push(
-            Frame::Value(Pending::NextParam {
-                rest,
-                arguments,
-                next,
-                env,
-            }),
-            Control::Do(Action::Initialize {
+        } => {
+            push(
+                frames,
+                Frame::Value(Pending::NextParam {
+                    rest,
+                    arguments,
+                    next,
+                    env,
+                }),
+            )?;
+            Ok(Control::Do(Action::Initialize {
                 name: param,
                 env,
                 value,
-            }),
-        )),
+            }))
+        }
         Pending::NextParam {
             rest,
             arguments,
             next,
             env,
         } => Ok(next_param(rest, arguments, next, env)),
-        Pending::Bound { function, env } => {
-            Ok(Step::Go(Control::Do(Action::EnterBody { function, env })))
-        }
+        Pending::Bound { function, env } => { Ok(Control::Do(Action::EnterBody { function, env })) }
     }
 }

@@ -8,11 +8,13 @@ ghost use Rattle.js_code.specs.Node.{build, function_of};
 ghost use Rattle.js_code.specs.Part.{as_code, as_expr};
 ghost use Rattle.js_meaning.specs.Effects.{handle};
 ghost use Rattle.js_meaning.specs.Meaning as M;
-ghost use Rattle.js_machine.specs.private.Config.{View, name_of, step_comp, control_comp, frame_comp, pending_comp, reference_of, referred, otherwise, units_of, expr_at};
-ghost use Rattle.js_machine.specs.private.Weight.{Weights, node_weight, step_weight, referring_weight, control_weight};
+ghost use Rattle.js_machine.specs.private.Config.{View, name_of, control_comp, frame_comp, pending_comp, reference_of, referred, otherwise, units_of, expr_at};
+ghost use Rattle.js_machine.specs.private.Weight.{Weights, node_weight, referring_weight, control_weight};
+ghost use Rattle.js_machine.specs.private.Frames.{ComesTo, Lighter};
 
 use crate::copies::copy_reference;
-use crate::data::{Action, Control, Frame, Pending, Step, Task};
+use crate::data::{Action, Control, Frame, Pending, Task};
+use crate::frames::push;
 use crate::parts::{Form, MemberKey, Reference, Referring, Title};
 use items::Memory;
 use js_code::Node;
@@ -22,193 +24,247 @@ use js_value::{Complaint, Primitive, Value};
 
 /// The expression at a place begins, for the reference that it is.
 #[inline(never)]
-pub fn begin_reference(node: &Node, place: usize, env: Env, next: Referring) -> Step
-    ensures means { (t : View) → t.name place ≡ name_of node.now → t.tree place ≡ build t.tree node.now →
-        step_comp t result ≡ M.comp_reference t.program (as_expr (build t.tree node.now)) env.index (otherwise t next (as_expr (build t.tree node.now)) env.index) (referred t next env.index) }
-    ensures less { (w : Weights) → step_weight w result < w place + node_weight w node.now + referring_weight w next }
+pub fn begin_reference(
+    frames: &mut Vec<Frame>,
+    node: &Node,
+    place: usize,
+    env: Env,
+    next: Referring,
+) -> Result<Control, Memory>
+    ensures means { IfOk result (λ control. (t : View) → t.name place ≡ name_of node.now → t.tree place ≡ build t.tree node.now →
+        ComesTo t frames.old.items (M.comp_reference t.program (as_expr (build t.tree node.now)) env.index (otherwise t next (as_expr (build t.tree node.now)) env.index) (referred t next env.index)) frames.new.items control) }
+    ensures less { IfOk result (λ control. (w : Weights) → Lighter w frames.old.items (w place + node_weight w node.now + referring_weight w next) frames.new.items control) }
 {
     match node {
-        Node::IdentifierReference { .. } => Step::Go(Control::Begin(Task::Referred {
+        Node::IdentifierReference { .. } => Ok(Control::Begin(Task::Referred {
             next,
             env,
             reference: Reference::Name(place),
         })),
-        Node::NamedMember { object, .. } => Step::Push(
-            Frame::Value(Pending::ReferNamed {
-                name: place,
-                env,
-                next,
-            }),
-            Control::Begin(Task::Evaluate {
+        Node::NamedMember { object, .. } => {
+            push(
+                frames,
+                Frame::Value(Pending::ReferNamed {
+                    name: place,
+                    env,
+                    next,
+                }),
+            )?;
+            Ok(Control::Begin(Task::Evaluate {
                 place: *object,
                 env,
-            }),
-        ),
-        Node::ComputedMember { object, key, .. } => Step::Push(
-            Frame::Value(Pending::ReferObject {
-                key: *key,
-                env,
-                next,
-            }),
-            Control::Begin(Task::Evaluate {
+            }))
+        }
+        Node::ComputedMember { object, key, .. } => {
+            push(
+                frames,
+                Frame::Value(Pending::ReferObject {
+                    key: *key,
+                    env,
+                    next,
+                }),
+            )?;
+            Ok(Control::Begin(Task::Evaluate {
                 place: *object,
                 env,
-            }),
-        ),
-        Node::Parenthesized { inner, .. } => Step::Go(Control::Begin(Task::Refer {
+            }))
+        }
+        Node::Parenthesized { inner, .. } => Ok(Control::Begin(Task::Refer {
             place: *inner,
             env,
             next,
         })),
-        _ => no_reference(next, place, env),
+        _ => no_reference(frames, next, place, env),
     }
 }
 
 // Where an expression is no reference.
-fn no_reference(next: Referring, place: usize, env: Env) -> Step
-    ensures means { (t : View) → step_comp t result ≡ otherwise t next (expr_at t place) env.index }
-    ensures less { (w : Weights) → step_weight w result < w place + referring_weight w next }
+fn no_reference(
+    frames: &mut Vec<Frame>,
+    next: Referring,
+    place: usize,
+    env: Env,
+) -> Result<Control, Memory>
+    ensures means { IfOk result (λ control. (t : View) → ComesTo t frames.old.items (otherwise t next (expr_at t place) env.index) frames.new.items control) }
+    ensures less { IfOk result (λ control. (w : Weights) → Lighter w frames.old.items (w place + referring_weight w next) frames.new.items control) }
 {
     match next {
-        Referring::Call { arguments } => Step::Push(
-            Frame::Value(Pending::Callee {
-                arguments,
-                env,
-                this: Value::Primitive(Primitive::Undefined),
-            }),
-            Control::Begin(Task::Evaluate { place, env }),
-        ),
-        Referring::Delete => Step::Push(
-            Frame::Value(Pending::Operand {
-                operator: UnaryOperator::Delete,
-            }),
-            Control::Begin(Task::Evaluate { place, env }),
-        ),
-        Referring::Update { .. } => not_assignable(),
-        Referring::Assign { .. } => not_assignable(),
-        Referring::Take { .. } => not_assignable(),
+        Referring::Call { arguments } => {
+            push(
+                frames,
+                Frame::Value(Pending::Callee {
+                    arguments,
+                    env,
+                    this: Value::Primitive(Primitive::Undefined),
+                }),
+            )?;
+            Ok(Control::Begin(Task::Evaluate { place, env }))
+        }
+        Referring::Delete => {
+            push(
+                frames,
+                Frame::Value(Pending::Operand {
+                    operator: UnaryOperator::Delete,
+                }),
+            )?;
+            Ok(Control::Begin(Task::Evaluate { place, env }))
+        }
+        Referring::Update { .. } => Ok(not_assignable()),
+        Referring::Assign { .. } => Ok(not_assignable()),
+        Referring::Take { .. } => Ok(not_assignable()),
     }
 }
 
 // The error that nothing can be assigned to what is no reference.
-fn not_assignable() -> Step
-    ensures { result ≡ Step.Go (Control.Do (Action.Throw Complaint.NotAssignable)) }
+fn not_assignable() -> Control
+    ensures { result ≡ Control.Do (Action.Throw Complaint.NotAssignable) }
 {
-    Step::Go(Control::Do(Action::Throw(Complaint::NotAssignable)))
+    Control::Do(Action::Throw(Complaint::NotAssignable))
 }
 
 /// A reference is there.
 #[inline(never)]
-pub fn begin_referred(next: Referring, env: Env, reference: Reference) -> Result<Step, Memory>
-    ensures means { IfOk result (λ step. (t : View) → step_comp t step ≡ referred t next env.index (reference_of t reference)) }
-    ensures less { IfOk result (λ step. (w : Weights) → step_weight w step < referring_weight w next) }
+pub fn begin_referred(
+    frames: &mut Vec<Frame>,
+    next: Referring,
+    env: Env,
+    reference: Reference,
+) -> Result<Control, Memory>
+    ensures means { IfOk result (λ control. (t : View) → ComesTo t frames.old.items (referred t next env.index (reference_of t reference)) frames.new.items control) }
+    ensures less { IfOk result (λ control. (w : Weights) → Lighter w frames.old.items (referring_weight w next) frames.new.items control) }
 {
     match next {
-        Referring::Call { arguments } => call_reference(arguments, env, reference),
+        Referring::Call { arguments } => call_reference(frames, arguments, env, reference),
         Referring::Update { prefix, operator } => {
             let same = copy_reference(&reference)?;
-            Ok(Step::Push(
+            push(
+                frames,
                 Frame::Value(Pending::Update {
                     prefix,
                     operator,
                     reference: same,
                     env,
                 }),
-                get(reference, env),
-            ))
+            )?;
+            Ok(get(reference, env))
         }
-        Referring::Delete => Ok(Step::Go(Control::Do(Action::Delete(reference)))),
-        Referring::Assign { operator, value } => assign(operator, value, env, reference),
-        Referring::Take { value, round, rest } => Ok(Step::Push(
-            Frame::Value(Pending::Taken {
-                round,
-                inner: env,
-                rest,
-            }),
-            put(reference, env, value),
-        )),
+        Referring::Delete => Ok(Control::Do(Action::Delete(reference))),
+        Referring::Assign { operator, value } => assign(frames, operator, value, env, reference),
+        Referring::Take { value, round, rest } => {
+            push(
+                frames,
+                Frame::Value(Pending::Taken {
+                    round,
+                    inner: env,
+                    rest,
+                }),
+            )?;
+            Ok(put(reference, env, value))
+        }
     }
 }
 
 // A reference is read for a call, whose `this` is the object of a member.
-fn call_reference(arguments: usize, env: Env, reference: Reference) -> Result<Step, Memory>
-    ensures means { IfOk result (λ step. (t : View) → step_comp t step ≡ referred t (Referring.Call arguments) env.index (reference_of t reference)) }
-    ensures less { IfOk result (λ step. (w : Weights) → step_weight w step < w arguments + 5) }
+fn call_reference(
+    frames: &mut Vec<Frame>,
+    arguments: usize,
+    env: Env,
+    reference: Reference,
+) -> Result<Control, Memory>
+    ensures means { IfOk result (λ control. (t : View) → ComesTo t frames.old.items (referred t (Referring.Call arguments) env.index (reference_of t reference)) frames.new.items control) }
+    ensures less { IfOk result (λ control. (w : Weights) → Lighter w frames.old.items (w arguments + 5) frames.new.items control) }
 {
     match reference {
-        Reference::Name(name) => Ok(Step::Push(
-            Frame::Value(Pending::Callee {
-                arguments,
-                env,
-                this: Value::Primitive(Primitive::Undefined),
-            }),
-            Control::Do(Action::Read { name, env }),
-        )),
+        Reference::Name(name) => {
+            push(
+                frames,
+                Frame::Value(Pending::Callee {
+                    arguments,
+                    env,
+                    this: Value::Primitive(Primitive::Undefined),
+                }),
+            )?;
+            Ok(Control::Do(Action::Read { name, env }))
+        }
         Reference::Member { base, key } => {
             let this = base.copy()?;
-            Ok(Step::Push(
+            push(
+                frames,
                 Frame::Value(Pending::Callee {
                     arguments,
                     env,
                     this,
                 }),
-                Control::Do(Action::GetMember { base, key }),
-            ))
+            )?;
+            Ok(Control::Do(Action::GetMember { base, key }))
         }
     }
 }
 
 // An assignment: by an operator the old value is read first.
 fn assign(
+    frames: &mut Vec<Frame>,
     operator: Option<BinaryOperator>,
     value: usize,
     env: Env,
     reference: Reference,
-) -> Result<Step, Memory>
-    ensures means { IfOk result (λ step. (t : View) → step_comp t step ≡ referred t (Referring.Assign operator value) env.index (reference_of t reference)) }
-    ensures less { IfOk result (λ step. (w : Weights) → step_weight w step < 2 * w value + 10) }
+) -> Result<Control, Memory>
+    ensures means { IfOk result (λ control. (t : View) → ComesTo t frames.old.items (referred t (Referring.Assign operator value) env.index (reference_of t reference)) frames.new.items control) }
+    ensures less { IfOk result (λ control. (w : Weights) → Lighter w frames.old.items (2 * w value + 10) frames.new.items control) }
 {
     match operator {
-        None => Ok(assign_plainly(value, env, reference)),
+        None => assign_plainly(frames, value, env, reference),
         Some(operator) => {
             let same = copy_reference(&reference)?;
-            Ok(Step::Push(
+            push(
+                frames,
                 Frame::Value(Pending::Old {
                     operator,
                     value,
                     reference: same,
                     env,
                 }),
-                get(reference, env),
-            ))
+            )?;
+            Ok(get(reference, env))
         }
     }
 }
 
 // An assignment without an operator: a name names its value.
-fn assign_plainly(value: usize, env: Env, reference: Reference) -> Step
-    ensures means { (t : View) → step_comp t result ≡ referred t (Referring.Assign None value) env.index (reference_of t reference) }
-    ensures less { (w : Weights) → step_weight w result < 2 * w value + 10 }
+fn assign_plainly(
+    frames: &mut Vec<Frame>,
+    value: usize,
+    env: Env,
+    reference: Reference,
+) -> Result<Control, Memory>
+    ensures means { IfOk result (λ control. (t : View) → ComesTo t frames.old.items (referred t (Referring.Assign None value) env.index (reference_of t reference)) frames.new.items control) }
+    ensures less { IfOk result (λ control. (w : Weights) → Lighter w frames.old.items (2 * w value + 10) frames.new.items control) }
 {
     match reference {
-        Reference::Name(name) => Step::Push(
-            Frame::Value(Pending::Put {
-                reference: Reference::Name(name),
-                env,
-            }),
-            Control::Begin(Task::EvaluateNamed {
+        Reference::Name(name) => {
+            push(
+                frames,
+                Frame::Value(Pending::Put {
+                    reference: Reference::Name(name),
+                    env,
+                }),
+            )?;
+            Ok(Control::Begin(Task::EvaluateNamed {
                 title: Title::Name(name),
                 place: value,
                 env,
-            }),
-        ),
-        Reference::Member { base, key } => Step::Push(
-            Frame::Value(Pending::Put {
-                reference: Reference::Member { base, key },
-                env,
-            }),
-            Control::Begin(Task::Evaluate { place: value, env }),
-        ),
+            }))
+        }
+        Reference::Member { base, key } => {
+            push(
+                frames,
+                Frame::Value(Pending::Put {
+                    reference: Reference::Member { base, key },
+                    env,
+                }),
+            )?;
+            Ok(Control::Begin(Task::Evaluate { place: value, env }))
+        }
     }
 }
 
@@ -238,29 +294,29 @@ pub fn put(reference: Reference, env: Env, value: Value) -> Control
 
 /// The expression at a place begins, where a name is given to it.
 #[inline(never)]
-pub fn begin_named(node: &Node, title: Title, place: usize, env: Env) -> Step
+pub fn begin_named(node: &Node, title: Title, place: usize, env: Env) -> Control
     ensures means { (t : View) → t.tree place ≡ build t.tree node.now →
-        step_comp t result ≡ M.named (units_of t title) (as_expr (build t.tree node.now)) env.index (M.comp_expr t.program (as_expr (build t.tree node.now)) env.index) }
-    ensures less { (w : Weights) → step_weight w result < w place + node_weight w node.now }
+        control_comp t result ≡ M.named (units_of t title) (as_expr (build t.tree node.now)) env.index (M.comp_expr t.program (as_expr (build t.tree node.now)) env.index) }
+    ensures less { (w : Weights) → control_weight w result < w place + node_weight w node.now }
 {
     match node {
         Node::FunctionExpression { name, function, .. } => {
             begin_function_named(name, *function, title, place, env)
         }
-        Node::ArrowFunction { function, .. } => Step::Go(Control::Do(Action::Close {
+        Node::ArrowFunction { function, .. } => Control::Do(Action::Close {
             form: Form::Arrow,
             function: *function,
             title,
             env,
-        })),
-        Node::Parenthesized { inner, .. } => Step::Go(Control::Begin(Task::EvaluateNamed {
+        }),
+        Node::Parenthesized { inner, .. } => Control::Begin(Task::EvaluateNamed {
             title,
             place: *inner,
             env,
-        })),
+        }),
         _ => {
             drop(title);
-            Step::Go(Control::Begin(Task::Evaluate { place, env }))
+            Control::Begin(Task::Evaluate { place, env })
         }
     }
 }
@@ -272,47 +328,55 @@ fn begin_function_named(
     title: Title,
     place: usize,
     env: Env,
-) -> Step
+) -> Control
     ensures means { (t : View) (loc : Option Loc) → expr_at t place ≡ FunctionExpression loc own.now (function_of (as_code (t.tree function))) →
-        step_comp t result ≡ M.named (units_of t title) (FunctionExpression loc own.now (function_of (as_code (t.tree function)))) env.index
+        control_comp t result ≡ M.named (units_of t title) (FunctionExpression loc own.now (function_of (as_code (t.tree function)))) env.index
         (M.comp_expr t.program (FunctionExpression loc own.now (function_of (as_code (t.tree function)))) env.index) }
-    ensures less { (w : Weights) → step_weight w result < w place + 8 }
+    ensures less { (w : Weights) → control_weight w result < w place + 8 }
 {
     match own {
-        None => Step::Go(Control::Do(Action::Close {
+        None => Control::Do(Action::Close {
             form: Form::Ordinary,
             function,
             title,
             env,
-        })),
+        }),
         Some(_) => {
             drop(title);
-            Step::Go(Control::Begin(Task::Evaluate { place, env }))
+            Control::Begin(Task::Evaluate { place, env })
         }
     }
 }
 
 /// The expression at a place begins, for its type: it may be a name that is not there.
 #[inline(never)]
-pub fn begin_type_of(node: &Node, place: usize, env: Env) -> Step
-    ensures means { (t : View) → t.name place ≡ name_of node.now → t.tree place ≡ build t.tree node.now →
-        step_comp t result ≡ M.if_there (M.name_of (as_expr (build t.tree node.now))) env.index
-        (handle (M.comp_expr t.program (as_expr (build t.tree node.now)) env.index) (M.with_value (M.operated_unary unary_operator.TypeOf))) }
-    ensures less { (w : Weights) → step_weight w result < w place + node_weight w node.now + 4 }
+pub fn begin_type_of(
+    frames: &mut Vec<Frame>,
+    node: &Node,
+    place: usize,
+    env: Env,
+) -> Result<Control, Memory>
+    ensures means { IfOk result (λ control. (t : View) → t.name place ≡ name_of node.now → t.tree place ≡ build t.tree node.now →
+        ComesTo t frames.old.items (M.if_there (M.name_of (as_expr (build t.tree node.now))) env.index
+        (handle (M.comp_expr t.program (as_expr (build t.tree node.now)) env.index) (M.with_value (M.operated_unary unary_operator.TypeOf)))) frames.new.items control) }
+    ensures less { IfOk result (λ control. (w : Weights) → Lighter w frames.old.items (w place + node_weight w node.now + 4) frames.new.items control) }
 {
     match node {
         Node::IdentifierReference { .. } => {
-            Step::Go(Control::Do(Action::TypeOfName { name: place, env }))
+            Ok(Control::Do(Action::TypeOfName { name: place, env }))
         }
-        Node::Parenthesized { inner, .. } => Step::Go(Control::Begin(Task::TypeOf {
+        Node::Parenthesized { inner, .. } => Ok(Control::Begin(Task::TypeOf {
             place: *inner,
             env,
         })),
-        _ => Step::Push(
-            Frame::Value(Pending::Operand {
-                operator: UnaryOperator::TypeOf,
-            }),
-            Control::Begin(Task::Evaluate { place, env }),
-        ),
+        _ => {
+            push(
+                frames,
+                Frame::Value(Pending::Operand {
+                    operator: UnaryOperator::TypeOf,
+                }),
+            )?;
+            Ok(Control::Begin(Task::Evaluate { place, env }))
+        }
     }
 }

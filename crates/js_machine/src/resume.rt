@@ -2,10 +2,12 @@
 
 ghost use Rattle.std.specs.Prelude.{◌≡◌, ◌<◌, ◌+◌, ◌*◌, IfOk};
 ghost use Rattle.js_meaning.specs.Files as F;
-ghost use Rattle.js_machine.specs.private.Config.{View, step_comp, frame_comp, pending_comp};
-ghost use Rattle.js_machine.specs.private.Weight.{Weights, step_weight, frame_weight, pending_weight};
+ghost use Rattle.js_machine.specs.private.Config.{View, frame_comp, pending_comp, control_comp};
+ghost use Rattle.js_machine.specs.private.Weight.{Weights, frame_weight, pending_weight, control_weight};
+ghost use Rattle.js_machine.specs.private.Frames.{ComesTo, Lighter};
 
-use crate::data::{Action, Control, Frame, Pending, Step, Task};
+use crate::data::{Action, Control, Frame, Pending, Task};
+use crate::frames::push;
 use crate::parts::{Labels, Loop};
 use crate::pending::go_on;
 use crate::steps::undefined;
@@ -18,12 +20,17 @@ use std::alloc::Global;
 
 /// What waits goes on with a completion.
 #[inline(never)]
-pub fn resume(alloc: Global, frame: Frame, completion: Completion) -> Result<Step, Memory>
-    ensures means { IfOk result (λ step. (t : View) → step_comp t step ≡ frame_comp t frame completion) }
-    ensures less { IfOk result (λ step. (w : Weights) → step_weight w step < frame_weight w frame) }
+pub fn resume(
+    alloc: Global,
+    frames: &mut Vec<Frame>,
+    frame: Frame,
+    completion: Completion,
+) -> Result<Control, Memory>
+    ensures means { IfOk result (λ control. (t : View) → ComesTo t frames.old.items (frame_comp t frame completion) frames.new.items control) }
+    ensures less { IfOk result (λ control. (w : Weights) → Lighter w frames.old.items (frame_weight w frame) frames.new.items control) }
 {
     match frame {
-        Frame::Value(pending) => go_on_with(alloc, pending, completion),
+        Frame::Value(pending) => go_on_with(alloc, frames, pending, completion),
         Frame::AfterTurn {
             statement,
             labels,
@@ -33,10 +40,10 @@ pub fn resume(alloc: Global, frame: Frame, completion: Completion) -> Result<Ste
         Frame::AfterLabel { label } => Ok(after_label(label, completion)),
         Frame::AfterSwitch => Ok(after_switch(completion)),
         Frame::Catch { catch, env } => Ok(caught(catch, env, completion)),
-        Frame::Finally { block, env } => Ok(Step::Push(
-            Frame::Value(Pending::Instead(completion)),
-            Control::Do(Action::EnterBlock { block, env }),
-        )),
+        Frame::Finally { block, env } => {
+            push(frames, Frame::Value(Pending::Instead(completion)))?;
+            Ok(Control::Do(Action::EnterBlock { block, env }))
+        }
         Frame::AfterCall => Ok(after_call(completion)),
         Frame::AfterConstruct { made } => Ok(after_construct(made, completion)),
         Frame::AfterStart { file } => Ok(after_start(file, completion)),
@@ -44,12 +51,17 @@ pub fn resume(alloc: Global, frame: Frame, completion: Completion) -> Result<Ste
 }
 
 // What waits for a value: any other completion passes it by.
-fn go_on_with(alloc: Global, pending: Pending, completion: Completion) -> Result<Step, Memory>
-    ensures means { IfOk result (λ step. (t : View) → step_comp t step ≡ frame_comp t (Frame.Value pending) completion) }
-    ensures less { IfOk result (λ step. (w : Weights) → step_weight w step < pending_weight w pending) }
+fn go_on_with(
+    alloc: Global,
+    frames: &mut Vec<Frame>,
+    pending: Pending,
+    completion: Completion,
+) -> Result<Control, Memory>
+    ensures means { IfOk result (λ control. (t : View) → ComesTo t frames.old.items (frame_comp t (Frame.Value pending) completion) frames.new.items control) }
+    ensures less { IfOk result (λ control. (w : Weights) → Lighter w frames.old.items (pending_weight w pending) frames.new.items control) }
 {
     match completion {
-        Completion::Normal(value) => go_on(alloc, pending, value),
+        Completion::Normal(value) => go_on(alloc, frames, pending, value),
         Completion::Break(label) => Ok(pass_by(pending, Completion::Break(label))),
         Completion::Continue(label) => Ok(pass_by(pending, Completion::Continue(label))),
         Completion::Return(value) => Ok(pass_by(pending, Completion::Return(value))),
@@ -58,125 +70,119 @@ fn go_on_with(alloc: Global, pending: Pending, completion: Completion) -> Result
 }
 
 // A completion that nothing waits for here.
-fn pass_by(pending: Pending, completion: Completion) -> Step
-    ensures means { result ≡ Step.Go (Control.Give completion) }
+fn pass_by(pending: Pending, completion: Completion) -> Control
+    ensures means { result ≡ Control.Give completion }
     ensures less { (w : Weights) → 0 < pending_weight w pending }
 {
     drop(pending);
-    Step::Go(Control::Give(completion))
+    Control::Give(completion)
 }
 
 // After the body of a loop.
-fn after_turn(statement: usize, labels: Labels, env: Env, completion: Completion) -> Step
-    ensures means { (t : View) → step_comp t result ≡ frame_comp t (Frame.AfterTurn statement labels env) completion }
-    ensures less { (w : Weights) → step_weight w result < 2 * w statement + 2 }
+fn after_turn(statement: usize, labels: Labels, env: Env, completion: Completion) -> Control
+    ensures means { (t : View) → control_comp t result ≡ frame_comp t (Frame.AfterTurn statement labels env) completion }
+    ensures less { (w : Weights) → control_weight w result < 2 * w statement + 2 }
 {
     match completion {
         Completion::Normal(value) => {
             drop(value);
-            Step::Go(Control::Begin(Task::Again {
+            Control::Begin(Task::Again {
                 statement,
                 labels,
                 env,
-            }))
+            })
         }
-        Completion::Continue(None) => Step::Go(Control::Begin(Task::Again {
+        Completion::Continue(None) => Control::Begin(Task::Again {
             statement,
             labels,
             env,
-        })),
-        Completion::Continue(Some(label)) => Step::Go(Control::Begin(Task::Continued {
+        }),
+        Completion::Continue(Some(label)) => Control::Begin(Task::Continued {
             label,
             statement,
             labels,
             env,
-        })),
+        }),
         Completion::Break(None) => undefined(),
-        Completion::Break(Some(label)) => {
-            Step::Go(Control::Give(Completion::Break(Some(label))))
-        }
-        Completion::Return(value) => Step::Go(Control::Give(Completion::Return(value))),
-        Completion::Throw(value) => Step::Go(Control::Give(Completion::Throw(value))),
+        Completion::Break(Some(label)) => { Control::Give(Completion::Break(Some(label))) }
+        Completion::Return(value) => Control::Give(Completion::Return(value)),
+        Completion::Throw(value) => Control::Give(Completion::Throw(value)),
     }
 }
 
 // After the body of a loop with `in` or `of`.
-fn after_pass(round: Loop, rest: Iteration, completion: Completion) -> Step
-    ensures means { (t : View) → step_comp t result ≡ frame_comp t (Frame.AfterPass round rest) completion }
-    ensures less { (w : Weights) → step_weight w result < w round.target + 3 }
+fn after_pass(round: Loop, rest: Iteration, completion: Completion) -> Control
+    ensures means { (t : View) → control_comp t result ≡ frame_comp t (Frame.AfterPass round rest) completion }
+    ensures less { (w : Weights) → control_weight w result < w round.target + 3 }
 {
     match completion {
         Completion::Normal(value) => {
             drop(value);
-            Step::Go(Control::Do(Action::GoThrough { round, rest }))
+            Control::Do(Action::GoThrough { round, rest })
         }
-        Completion::Continue(None) => Step::Go(Control::Do(Action::GoThrough { round, rest })),
+        Completion::Continue(None) => Control::Do(Action::GoThrough { round, rest }),
         Completion::Continue(Some(label)) => {
-            Step::Go(Control::Begin(Task::ContinuedPass { label, round, rest }))
+            Control::Begin(Task::ContinuedPass { label, round, rest })
         }
         Completion::Break(None) => undefined(),
-        Completion::Break(Some(label)) => {
-            Step::Go(Control::Give(Completion::Break(Some(label))))
-        }
-        Completion::Return(value) => Step::Go(Control::Give(Completion::Return(value))),
-        Completion::Throw(value) => Step::Go(Control::Give(Completion::Throw(value))),
+        Completion::Break(Some(label)) => { Control::Give(Completion::Break(Some(label))) }
+        Completion::Return(value) => Control::Give(Completion::Return(value)),
+        Completion::Throw(value) => Control::Give(Completion::Throw(value)),
     }
 }
 
 // After a statement with a label.
-fn after_label(label: usize, completion: Completion) -> Step
-    ensures means { (t : View) → step_comp t result ≡ frame_comp t (Frame.AfterLabel label) completion }
-    ensures less { (w : Weights) → step_weight w result < 2 }
+fn after_label(label: usize, completion: Completion) -> Control
+    ensures means { (t : View) → control_comp t result ≡ frame_comp t (Frame.AfterLabel label) completion }
+    ensures less { (w : Weights) → control_weight w result < 2 }
 {
     match completion {
-        Completion::Break(Some(broken)) => Step::Go(Control::Begin(Task::Broken { label, broken })),
-        Completion::Break(None) => Step::Go(Control::Give(Completion::Break(None))),
-        Completion::Normal(value) => Step::Go(Control::Give(Completion::Normal(value))),
-        Completion::Continue(label) => Step::Go(Control::Give(Completion::Continue(label))),
-        Completion::Return(value) => Step::Go(Control::Give(Completion::Return(value))),
-        Completion::Throw(value) => Step::Go(Control::Give(Completion::Throw(value))),
+        Completion::Break(Some(broken)) => Control::Begin(Task::Broken { label, broken }),
+        Completion::Break(None) => Control::Give(Completion::Break(None)),
+        Completion::Normal(value) => Control::Give(Completion::Normal(value)),
+        Completion::Continue(label) => Control::Give(Completion::Continue(label)),
+        Completion::Return(value) => Control::Give(Completion::Return(value)),
+        Completion::Throw(value) => Control::Give(Completion::Throw(value)),
     }
 }
 
 // After the clauses of a `switch`.
-fn after_switch(completion: Completion) -> Step
-    ensures means { (t : View) → step_comp t result ≡ frame_comp t Frame.AfterSwitch completion }
-    ensures less { (w : Weights) → step_weight w result ≡ 0 }
+fn after_switch(completion: Completion) -> Control
+    ensures means { (t : View) → control_comp t result ≡ frame_comp t Frame.AfterSwitch completion }
+    ensures less { (w : Weights) → control_weight w result ≡ 0 }
 {
     match completion {
         Completion::Break(None) => undefined(),
-        Completion::Break(Some(label)) => {
-            Step::Go(Control::Give(Completion::Break(Some(label))))
-        }
-        Completion::Normal(value) => Step::Go(Control::Give(Completion::Normal(value))),
-        Completion::Continue(label) => Step::Go(Control::Give(Completion::Continue(label))),
-        Completion::Return(value) => Step::Go(Control::Give(Completion::Return(value))),
-        Completion::Throw(value) => Step::Go(Control::Give(Completion::Throw(value))),
+        Completion::Break(Some(label)) => { Control::Give(Completion::Break(Some(label))) }
+        Completion::Normal(value) => Control::Give(Completion::Normal(value)),
+        Completion::Continue(label) => Control::Give(Completion::Continue(label)),
+        Completion::Return(value) => Control::Give(Completion::Return(value)),
+        Completion::Throw(value) => Control::Give(Completion::Throw(value)),
     }
 }
 
 // After a block with a `catch` clause.
-fn caught(catch: usize, env: Env, completion: Completion) -> Step
-    ensures means { (t : View) → step_comp t result ≡ frame_comp t (Frame.Catch catch env) completion }
-    ensures less { (w : Weights) → step_weight w result < w catch + 1 }
+fn caught(catch: usize, env: Env, completion: Completion) -> Control
+    ensures means { (t : View) → control_comp t result ≡ frame_comp t (Frame.Catch catch env) completion }
+    ensures less { (w : Weights) → control_weight w result < w catch + 1 }
 {
     match completion {
-        Completion::Throw(value) => Step::Go(Control::Begin(Task::Catch { catch, value, env })),
-        Completion::Break(label) => Step::Go(Control::Give(Completion::Break(label))),
-        Completion::Normal(value) => Step::Go(Control::Give(Completion::Normal(value))),
-        Completion::Continue(label) => Step::Go(Control::Give(Completion::Continue(label))),
-        Completion::Return(value) => Step::Go(Control::Give(Completion::Return(value))),
+        Completion::Throw(value) => Control::Begin(Task::Catch { catch, value, env }),
+        Completion::Break(label) => Control::Give(Completion::Break(label)),
+        Completion::Normal(value) => Control::Give(Completion::Normal(value)),
+        Completion::Continue(label) => Control::Give(Completion::Continue(label)),
+        Completion::Return(value) => Control::Give(Completion::Return(value)),
     }
 }
 
 // After the body of a function or of a file.
-fn after_call(completion: Completion) -> Step
-    ensures means { (t : View) → step_comp t result ≡ F.after_call completion }
-    ensures less { (w : Weights) → step_weight w result ≡ 0 }
+fn after_call(completion: Completion) -> Control
+    ensures means { (t : View) → control_comp t result ≡ F.after_call completion }
+    ensures less { (w : Weights) → control_weight w result ≡ 0 }
 {
     match completion {
-        Completion::Return(value) => Step::Go(Control::Give(Completion::Normal(value))),
-        Completion::Throw(value) => Step::Go(Control::Give(Completion::Throw(value))),
+        Completion::Return(value) => Control::Give(Completion::Normal(value)),
+        Completion::Throw(value) => Control::Give(Completion::Throw(value)),
         Completion::Normal(_) => undefined(),
         Completion::Break(_) => undefined(),
         Completion::Continue(_) => undefined(),
@@ -184,13 +190,13 @@ fn after_call(completion: Completion) -> Step
 }
 
 // After the body of a constructor.
-fn after_construct(made: Object, completion: Completion) -> Step
-    ensures means { (t : View) → step_comp t result ≡ F.after_construct made.index completion }
-    ensures less { (w : Weights) → step_weight w result ≡ 0 }
+fn after_construct(made: Object, completion: Completion) -> Control
+    ensures means { (t : View) → control_comp t result ≡ F.after_construct made.index completion }
+    ensures less { (w : Weights) → control_weight w result ≡ 0 }
 {
     match completion {
         Completion::Return(value) => object_or(made, value),
-        Completion::Throw(value) => Step::Go(Control::Give(Completion::Throw(value))),
+        Completion::Throw(value) => Control::Give(Completion::Throw(value)),
         Completion::Normal(_) => object(made),
         Completion::Break(_) => object(made),
         Completion::Continue(_) => object(made),
@@ -198,16 +204,16 @@ fn after_construct(made: Object, completion: Completion) -> Step
 }
 
 // An object for what waits.
-fn object(made: Object) -> Step
-    ensures { result ≡ Step.Go (Control.Give (Completion.Normal (Value.Object made))) }
+fn object(made: Object) -> Control
+    ensures { result ≡ Control.Give (Completion.Normal (Value.Object made)) }
 {
-    Step::Go(Control::Give(Completion::Normal(Value::Object(made))))
+    Control::Give(Completion::Normal(Value::Object(made)))
 }
 
 // The object that a value is, or else the one that was made.
-fn object_or(made: Object, value: Value) -> Step
-    ensures means { (t : View) → step_comp t result ≡ F.after_construct made.index (Completion.Return value) }
-    ensures less { (w : Weights) → step_weight w result ≡ 0 }
+fn object_or(made: Object, value: Value) -> Control
+    ensures means { (t : View) → control_comp t result ≡ F.after_construct made.index (Completion.Return value) }
+    ensures less { (w : Weights) → control_weight w result ≡ 0 }
 {
     match value {
         Value::Object(returned) => object(returned),
@@ -216,15 +222,15 @@ fn object_or(made: Object, value: Value) -> Step
 }
 
 // After a file that was started by `require`.
-fn after_start(file: usize, completion: Completion) -> Step
-    ensures means { (t : View) → step_comp t result ≡ frame_comp t (Frame.AfterStart file) completion }
-    ensures less { (w : Weights) → step_weight w result < 3 }
+fn after_start(file: usize, completion: Completion) -> Control
+    ensures means { (t : View) → control_comp t result ≡ frame_comp t (Frame.AfterStart file) completion }
+    ensures less { (w : Weights) → control_weight w result < 3 }
 {
     match completion {
-        Completion::Throw(thrown) => { Step::Go(Control::Do(Action::LeaveCache { file, thrown })) }
-        Completion::Normal(_) => Step::Go(Control::Do(Action::Exports { file })),
-        Completion::Break(_) => Step::Go(Control::Do(Action::Exports { file })),
-        Completion::Continue(_) => Step::Go(Control::Do(Action::Exports { file })),
-        Completion::Return(_) => Step::Go(Control::Do(Action::Exports { file })),
+        Completion::Throw(thrown) => { Control::Do(Action::LeaveCache { file, thrown }) }
+        Completion::Normal(_) => Control::Do(Action::Exports { file }),
+        Completion::Break(_) => Control::Do(Action::Exports { file }),
+        Completion::Continue(_) => Control::Do(Action::Exports { file }),
+        Completion::Return(_) => Control::Do(Action::Exports { file }),
     }
 }

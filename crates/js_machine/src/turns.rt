@@ -25,7 +25,7 @@ pub fn begin_turn(alloc: Global, node: &Node, statement: usize, labels: Labels, 
         Node::DoWhile { body, .. } => round_body(alloc, *body, statement, labels, env),
         Node::While { body, .. } => round_body(alloc, *body, statement, labels, env),
         Node::For { body, .. } => round_body(alloc, *body, statement, labels, env),
-        _ => undefined(),
+        _ => Step::Go(undefined()),
     }
 }
 
@@ -80,7 +80,7 @@ pub fn begin_pass(
             };
             pass_body(alloc, *body, round, inner, rest)
         }
-        _ => undefined(),
+        _ => Step::Go(undefined()),
     }
 }
 

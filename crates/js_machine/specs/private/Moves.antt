@@ -1,5 +1,5 @@
 -- Where the machine is, and what a transition does.
-use Rattle.std.specs.Prelude.{◌≡◌, ℕ, ◌+◌, ◌<◌, List, []}
+use Rattle.std.specs.Prelude.{◌≡◌, ℕ, ◌+◌, List, []}
 use Rattle.js_value.specs.State.{Store}
 use Rattle.js_meaning.specs.Effects as E
 use Rattle.js_meaning.specs.Effects.{Comp, exec}
@@ -8,8 +8,6 @@ use Rattle.js_machine.specs.declared.data.Control.TheVariants as control
 use Rattle.js_machine.specs.declared.data.Frame.{Frame}
 use Rattle.js_machine.specs.declared.data.Rest.{Rest}
 use Rattle.js_machine.specs.declared.data.Rest.TheVariants as rest
-use Rattle.js_machine.specs.declared.data.Move.{Move}
-use Rattle.js_machine.specs.declared.data.Move.TheVariants as move
 use Rattle.js_machine.specs.declared.state.State.{State}
 use Rattle.js_machine.specs.private.Config.{View, control_comp, plug}
 use Rattle.js_machine.specs.private.Weight.{place_weight, control_weight, frames_weight}
@@ -47,16 +45,6 @@ rest_control (rest.Asks e) = control.Enter e
 
 abbrev pub here : List Frame → Control → State → Here
 here frames next s = record { frames = frames; control = next; state = held s }
-
--- a transition leads on, or the machine can't go on by itself and nothing changes
-abbrev pub Moves : View → Here → Move → List Frame → State → Type 0
-Moves t h (move.Next c) fs s = Leads t h (here fs c s)
-Moves t h (move.At r) fs s = IsAt r h.control fs × (fs ≡ h.frames) × (held s ≡ h.state)
-
--- where it leads on, it leaves less work
-abbrev pub Lessens : Here → Move → List Frame → State → Type 0
-Lessens h (move.Next c) fs s = work (here fs c s) < work h
-Lessens h (move.At r) fs s = Unit {0}
 
 -- transitions lead to where the machine can't go on by itself
 abbrev pub Rests : View → Here → Rest → List Frame → State → Type 0

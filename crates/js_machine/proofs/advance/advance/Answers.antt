@@ -1,36 +1,51 @@
-use Rattle.std.proofs.Common.{subst}
-use Rattle.js_meaning.specs.Program.{Sources}
-use Rattle.js_machine.specs.declared.data.Move.TheVariants.{Next, At}
-use Rattle.js_machine.specs.private.Carries.{Carries}
+use Rattle.std.proofs.Common.{◌≡◌, [], refl, rules}
+use Rattle.js_machine.specs.declared.data.Rest.TheVariants as rest
 use Rattle.js_machine.specs.private.Config.{view_of}
-use Rattle.js_machine.specs.private.Moves.{here, Lessens, Moves}
-use Rattle.js_machine.proofs.Moves.{leads_none, leads_on, rests_at}
+use Rattle.js_machine.specs.private.Moves.{here}
+use Rattle.js_machine.specs.private.Weight.{place_weight}
+use Rattle.js_machine.proofs.Moves.{begins, begins_lighter, leads_none, leads_on, perform_lessens, perform_moves, rests_at, resumes, resumes_lighter}
 use Rattle.js_machine.proofs.advance.advance.Goals as goal
 
--- the move that was made
-moved_on : (c : goal.In-Next) (p : Sources) → Carries p c.args.code.now →
-    Moves (view_of p c.args.code.now.nodes) (here c.loop-next.frames.items c.loop-next.at c.loop-next.state) (Next c.in-Next.next) c.move_on.new.frames.items c.move_on.new.state
-moved_on c p carries = subst
-    (λ m. Moves (view_of p c.args.code.now.nodes) (here c.loop-next.frames.items c.loop-next.at c.loop-next.state) m c.move_on.new.frames.items c.move_on.new.state)
-    c.in-Next.is (c.in_ok-next.ensures.moves p carries)
+pub transitions-init : goal.transitions-init
+transitions-init c = λ p carries. leads_none (view_of p c.args.code.now.nodes) (here c.args.frames.now.items c.args.control c.args.state.now)
 
-stayed : (c : goal.In-At) (p : Sources) → Carries p c.args.code.now →
-    Moves (view_of p c.args.code.now.nodes) (here c.loop-next.frames.items c.loop-next.at c.loop-next.state) (At c.in-At.rest) c.move_on.new.frames.items c.move_on.new.state
-stayed c p carries = subst
-    (λ m. Moves (view_of p c.args.code.now.nodes) (here c.loop-next.frames.items c.loop-next.at c.loop-next.state) m c.move_on.new.frames.items c.move_on.new.state)
-    c.in-At.is (c.in_ok-next.ensures.moves p carries)
+pub transitions-preserved-in-Begin : goal.transitions-preserved-in-Begin
+transitions-preserved-in-Begin c = λ p carries. leads_on (view_of p c.args.code.now.nodes) _ _ _ (c.transitions.invariant p carries)
+    (begins (view_of p c.args.code.now.nodes) c.transitions.frames.items c.begin.new.frames.items c.transitions.at c.in_ok-at-in-Begin.at c.in-Begin.task c.transitions.state
+    c.in-Begin.is (c.in_ok-at-in-Begin.ensures.means p))
 
-pub loop-next-init : goal.loop-next-init
-loop-next-init c = λ p carries. leads_none (view_of p c.args.code.now.nodes) (here c.args.frames.now.items c.args.control c.args.state.now)
+pub transitions-smaller-in-Begin : goal.transitions-smaller-in-Begin
+transitions-smaller-in-Begin c = begins_lighter c.transitions.frames.items c.begin.new.frames.items c.transitions.at c.in_ok-at-in-Begin.at c.in-Begin.task c.transitions.state c.transitions.state
+    c.in-Begin.is c.in_ok-at-in-Begin.ensures.less
 
-pub loop-next-smaller : goal.loop-next-smaller
-loop-next-smaller c = subst
-    (λ m. Lessens (here c.loop-next.frames.items c.loop-next.at c.loop-next.state) m c.move_on.new.frames.items c.move_on.new.state)
-    c.in-Next.is c.in_ok-next.ensures.lessens
+pub transitions-preserved-in-Some : goal.transitions-preserved-in-Some
+transitions-preserved-in-Some c = λ p carries. leads_on (view_of p c.args.code.now.nodes) _ _ _ (c.transitions.invariant p carries)
+    (resumes (view_of p c.args.code.now.nodes) c.transitions.frames.items c.pop.new.self.items c.resume.new.frames.items c.transitions.at c.in_ok-at-in-Some.at c.in-Some.frame c.in-Give.completion c.transitions.state
+    c.in-Give.is c.in-Some.ensures.items (c.in_ok-at-in-Some.ensures.means (view_of p c.args.code.now.nodes)))
 
-pub loop-next-preserved : goal.loop-next-preserved
-loop-next-preserved c = λ p carries. leads_on (view_of p c.args.code.now.nodes) _ _ _ (c.loop-next.invariant p carries) (moved_on c p carries)
+pub transitions-smaller-in-Some : goal.transitions-smaller-in-Some
+transitions-smaller-in-Some c = resumes_lighter c.transitions.frames.items c.pop.new.self.items c.resume.new.frames.items c.transitions.at c.in_ok-at-in-Some.at c.in-Some.frame c.in-Give.completion c.transitions.state c.transitions.state
+    c.in-Give.is c.in-Some.ensures.items (c.in_ok-at-in-Some.ensures.less place_weight)
 
-pub returns-in-At : goal.returns-in-At
-returns-in-At c = λ p carries. rests_at (view_of p c.args.code.now.nodes) _ _ _ _ _ c.loop-next.state c.move_on.new.state (c.loop-next.invariant p carries)
-    (stayed c p carries).0 (stayed c p carries).1 (stayed c p carries).2
+pub transitions-preserved : goal.transitions-preserved
+transitions-preserved c = λ p carries. leads_on (view_of p c.args.code.now.nodes) _ _ _ (c.transitions.invariant p carries)
+    (perform_moves (view_of p c.args.code.now.nodes) c.transitions.frames.items c.in-Do.action c.transitions.at c.in_ok-at-in-Do.at c.transitions.state c.perform.new.state
+    c.in-Do.is (λ base. c.in_ok-at-in-Do.ensures.becomes p base carries.code_of))
+
+pub transitions-smaller : goal.transitions-smaller
+transitions-smaller c = perform_lessens c.transitions.frames.items c.in-Do.action c.transitions.at c.in_ok-at-in-Do.at c.transitions.state c.perform.new.state c.in-Do.is c.in_ok-at-in-Do.ensures.less
+
+pub returns-in-None : goal.returns-in-None
+returns-in-None c = λ p carries.
+    let none : c.pop.new.self.items ≡ [] = search rules in
+    let same : c.pop.new.self.items ≡ c.transitions.frames.items = search rules in
+    rests_at (view_of p c.args.code.now.nodes) (here c.args.frames.now.items c.args.control c.args.state.now) (rest.Completed c.in-Give.completion) c.transitions.at c.transitions.frames.items c.pop.new.self.items c.transitions.state c.transitions.state
+    (c.transitions.invariant p carries) (c.in-Give.is, none) same refl
+
+pub returns-in-Refuse : goal.returns-in-Refuse
+returns-in-Refuse c = λ p carries. rests_at (view_of p c.args.code.now.nodes) (here c.args.frames.now.items c.args.control c.args.state.now) (rest.Refused c.in-Refuse.kind) c.transitions.at c.transitions.frames.items c.transitions.frames.items c.transitions.state c.transitions.state
+    (c.transitions.invariant p carries) c.in-Refuse.is refl refl
+
+pub returns-in-Enter : goal.returns-in-Enter
+returns-in-Enter c = λ p carries. rests_at (view_of p c.args.code.now.nodes) (here c.args.frames.now.items c.args.control c.args.state.now) (rest.Asks c.in-Enter.entry) c.transitions.at c.transitions.frames.items c.transitions.frames.items c.transitions.state c.transitions.state
+    (c.transitions.invariant p carries) c.in-Enter.is refl refl

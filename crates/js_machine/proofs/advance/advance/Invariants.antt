@@ -5,9 +5,9 @@ use Rattle.js_machine.specs.private.Config.{view_of}
 use Rattle.js_machine.specs.private.Moves.{here, Leads, work}
 use Rattle.js_machine.proofs.advance.advance.Given as goal
 
-abbrev pub invariant-loop-next : goal.invariant-loop-next
-invariant-loop-next l = (p : Sources) → Carries p l.code →
+abbrev pub invariant-transitions : goal.invariant-transitions
+invariant-transitions l = (p : Sources) → Carries p l.code →
     Leads (view_of p l.code.nodes) (here l.fn.frames.items l.fn.control l.fn.state) (here l.frames.items l.at l.state)
 
-abbrev pub decreases-loop-next : goal.decreases-loop-next
-decreases-loop-next l = work (here l.frames.items l.at l.state)
+abbrev pub decreases-transitions : goal.decreases-transitions
+decreases-transitions l = work (here l.frames.items l.at l.state)

@@ -9,7 +9,7 @@ use Rattle.js_value.specs.Requiring.{required_path}
 use Rattle.js_meaning.specs.declared.outcome.Completion.TheVariants as completion
 use Rattle.js_meaning.specs.Effects.{ret}
 use Rattle.js_meaning.specs.Files as F
-use Rattle.js_machine.specs.private.Config.{view_of, step_comp}
+use Rattle.js_machine.specs.private.Config.{view_of, control_comp, step_comp}
 use Rattle.js_machine.specs.private.State.{store_in}
 use Rattle.js_machine.proofs.Acts.{acts}
 use Rattle.js_machine.proofs.Stores.{act_becomes, becomes_same, heap_becomes}
@@ -39,4 +39,4 @@ returns-in-Require c = IfOk-weaker c.require.result _ _ (λ step becomes p base 
     (act_becomes (λ s. s) (λ s. F.require_path p s (required_path s c.args.callee.index c.in-Require.units)) (store_in base c.args.state.now) (store_in base c.args.state.now) (store_in base c.require.new.state) (step_comp (view_of p c.args.code.now.nodes) step) refl (becomes p base carries))) c.require.ensures
 
 pub returns-in-Enter : goal.returns-in-Enter
-returns-in-Enter c = λ p base carries. rw c.in-Enter.is (becomes_same _ _ _ (ap (step_comp (view_of p c.args.code.now.nodes)) c.undefined.ensures))
+returns-in-Enter c = λ p base carries. rw c.in-Enter.is (becomes_same _ _ _ (ap (control_comp (view_of p c.args.code.now.nodes)) c.undefined.ensures))

@@ -1,8 +1,7 @@
-use Rattle.std.proofs.Common.{refl, ap}
-use Rattle.js_machine.specs.private.Config.{step_comp}
+use Rattle.std.proofs.Common.{refl}
 use Rattle.js_machine.proofs.Natives.{writes}
 use Rattle.js_machine.proofs.enter.write.Goals as goal
 
 pub returns : goal.returns
-returns c = λ t base. rw (ap (step_comp t) c.undefined.ensures)
+returns c = λ t base. rw c.undefined.ensures
     (writes c.args.state.now (record c.args.state.now { output = c.extend_from_slice.new.self }) c.args.bytes.now base c.in_ok-extend_from_slice.ensures.items refl)

@@ -1,18 +1,19 @@
-use Rattle.std.proofs.Common.{refl, sym, ap, ◌∙◌}
+use Rattle.std.proofs.lemmas.Result.{IfOk-weaker}
+use Rattle.std.proofs.Common.{refl, sym, ap, ◌∙◌, arith}
 use Rattle.js_value.specs.Realm.{text}
 use Rattle.js_value.specs.Functions.{name_units}
 use Rattle.js_code.specs.Part.{as_expr}
 use Rattle.js_meaning.specs.Effects.{handle}
 use Rattle.js_meaning.specs.Meaning as M
 use Rattle.js_machine.proofs.OtherNodes as other
-use Rattle.js_machine.specs.private.Config.{name_of}
+use Rattle.js_machine.specs.private.Config.{name_of, plug}
 use Rattle.js_machine.proofs.expressions.begin_expression.Goals as goal
 
 pub returns-in-IdentifierReference-clause-means : goal.returns-in-IdentifierReference-clause-means
-returns-in-IdentifierReference-clause-means c = λ t named. rw c.in-IdentifierReference.is (ap (λ n. M.read n c.args.env.index) (named ∙ ap name_of c.in-IdentifierReference.is))
+returns-in-IdentifierReference-clause-means c = λ t named. rw c.in-IdentifierReference.is (ap (plug t c.args.frames.now.items) (ap (λ n. M.read n c.args.env.index) (named ∙ ap name_of c.in-IdentifierReference.is)))
 
 pub returns-in-This-clause-means : goal.returns-in-This-clause-means
-returns-in-This-clause-means c = λ t named. rw c.in-This.is (ap (λ n. M.read n c.args.env.index) (named ∙ ap name_of c.in-This.is))
+returns-in-This-clause-means c = λ t named. rw c.in-This.is (ap (plug t c.args.frames.now.items) (ap (λ n. M.read n c.args.env.index) (named ∙ ap name_of c.in-This.is)))
 
 pub returns-in-NullLiteral-clause-means : goal.returns-in-NullLiteral-clause-means
 returns-in-NullLiteral-clause-means c = λ t named. rw (c.in-NullLiteral.is, c.primitive.ensures) refl
@@ -21,7 +22,7 @@ pub returns-in-BooleanLiteral-clause-means : goal.returns-in-BooleanLiteral-clau
 returns-in-BooleanLiteral-clause-means c = λ t named. rw (c.in-BooleanLiteral.is, c.primitive-in-BooleanLiteral.ensures) refl
 
 pub returns-in-NumericLiteral-clause-means : goal.returns-in-NumericLiteral-clause-means
-returns-in-NumericLiteral-clause-means c = λ t named. rw c.in-NumericLiteral.is (c.number.ensures.means t ∙ ap M.number c.value.ensures)
+returns-in-NumericLiteral-clause-means c = λ t named. rw c.in-NumericLiteral.is (ap (plug t c.args.frames.now.items) (c.number.ensures.means t ∙ ap M.number c.value.ensures))
 
 pub returns-in_ok-copy-in-StringLiteral-clause-means : goal.returns-in_ok-copy-in-StringLiteral-clause-means
 returns-in_ok-copy-in-StringLiteral-clause-means c = λ t named. rw (c.in-StringLiteral.is, c.primitive-in-StringLiteral.ensures, c.in_ok-copy-in-StringLiteral.ensures) refl
@@ -33,7 +34,7 @@ pub returns-in-ObjectLiteral-clause-means : goal.returns-in-ObjectLiteral-clause
 returns-in-ObjectLiteral-clause-means c = λ t named. rw c.in-ObjectLiteral.is refl
 
 pub returns-in-FunctionExpression-clause-means : goal.returns-in-FunctionExpression-clause-means
-returns-in-FunctionExpression-clause-means c = λ t named. rw c.in-FunctionExpression.is (c.begin_function.ensures.means t c.in-FunctionExpression.loc (named ∙ ap name_of c.in-FunctionExpression.is))
+returns-in-FunctionExpression-clause-means c = λ t named. rw c.in-FunctionExpression.is (ap (plug t c.args.frames.now.items) (c.begin_function.ensures.means t c.in-FunctionExpression.loc (named ∙ ap name_of c.in-FunctionExpression.is)))
 
 pub returns-in-ArrowFunction-clause-means : goal.returns-in-ArrowFunction-clause-means
 returns-in-ArrowFunction-clause-means c = λ t named. rw c.in-ArrowFunction.is refl
@@ -47,15 +48,23 @@ returns-in_ok-copy-in-TemplateLiteral-clause-means c = λ t named. rw (c.in-Temp
 pub returns-in-Parenthesized-clause-means : goal.returns-in-Parenthesized-clause-means
 returns-in-Parenthesized-clause-means c = λ t named. rw c.in-Parenthesized.is refl
 
-pub returns-in-NamedMember-clause-means : goal.returns-in-NamedMember-clause-means
-returns-in-NamedMember-clause-means c = λ t named. rw c.in-NamedMember.is
-    (ap (λ n. handle (M.comp_expr t.program (as_expr (t.tree c.in-NamedMember.object)) c.args.env.index) (M.with_value (λ v. M.get_member_of v (text (name_units n))))) (named ∙ ap name_of c.in-NamedMember.is))
+pub returns-in_ok-push-in-NamedMember-clause-means : goal.returns-in_ok-push-in-NamedMember-clause-means
+returns-in_ok-push-in-NamedMember-clause-means c = λ t named. rw c.in-NamedMember.is (c.in_ok-push-in-NamedMember.ensures.means t _ ∙ ap (plug t c.args.frames.now.items) (ap (λ n. handle (M.comp_expr t.program (as_expr (t.tree c.in-NamedMember.object)) c.args.env.index) (M.with_value (λ v. M.get_member_of v (text (name_units n))))) (named ∙ ap name_of c.in-NamedMember.is)))
 
-pub returns-in-ComputedMember-clause-means : goal.returns-in-ComputedMember-clause-means
-returns-in-ComputedMember-clause-means c = λ t named. rw c.in-ComputedMember.is refl
+pub returns-in_ok-push-in-NamedMember-clause-less : goal.returns-in_ok-push-in-NamedMember-clause-less
+returns-in_ok-push-in-NamedMember-clause-less c = λ w. rw c.in-NamedMember.is (omega (arith, c.in_ok-push-in-NamedMember.ensures.weight w))
 
-pub returns-in-New-clause-means : goal.returns-in-New-clause-means
-returns-in-New-clause-means c = λ t named. rw c.in-New.is refl
+pub returns-in_ok-push-in-ComputedMember-clause-means : goal.returns-in_ok-push-in-ComputedMember-clause-means
+returns-in_ok-push-in-ComputedMember-clause-means c = λ t named. rw c.in-ComputedMember.is (c.in_ok-push-in-ComputedMember.ensures.means t _)
+
+pub returns-in_ok-push-in-ComputedMember-clause-less : goal.returns-in_ok-push-in-ComputedMember-clause-less
+returns-in_ok-push-in-ComputedMember-clause-less c = λ w. rw c.in-ComputedMember.is (omega (arith, c.in_ok-push-in-ComputedMember.ensures.weight w))
+
+pub returns-in_ok-push-in-New-clause-means : goal.returns-in_ok-push-in-New-clause-means
+returns-in_ok-push-in-New-clause-means c = λ t named. rw c.in-New.is (c.in_ok-push-in-New.ensures.means t _)
+
+pub returns-in_ok-push-in-New-clause-less : goal.returns-in_ok-push-in-New-clause-less
+returns-in_ok-push-in-New-clause-less c = λ w. rw c.in-New.is (omega (arith, c.in_ok-push-in-New.ensures.weight w))
 
 pub returns-in-Call-clause-means : goal.returns-in-Call-clause-means
 returns-in-Call-clause-means c = λ t named. rw c.in-Call.is refl
@@ -67,22 +76,37 @@ pub returns-in-PrefixUpdate-clause-means : goal.returns-in-PrefixUpdate-clause-m
 returns-in-PrefixUpdate-clause-means c = λ t named. rw c.in-PrefixUpdate.is refl
 
 pub returns-in-Unary-clause-means : goal.returns-in-Unary-clause-means
-returns-in-Unary-clause-means c = λ t named. rw c.in-Unary.is (c.begin_unary.ensures.means t c.in-Unary.loc)
+returns-in-Unary-clause-means c = IfOk-weaker c.begin_unary.result _ _ (λ next means t named. rw c.in-Unary.is (means t c.in-Unary.loc)) c.begin_unary.ensures.means
 
-pub returns-in-Binary-clause-means : goal.returns-in-Binary-clause-means
-returns-in-Binary-clause-means c = λ t named. rw c.in-Binary.is refl
+pub returns-in_ok-push-in-Binary-clause-means : goal.returns-in_ok-push-in-Binary-clause-means
+returns-in_ok-push-in-Binary-clause-means c = λ t named. rw c.in-Binary.is (c.in_ok-push-in-Binary.ensures.means t _)
 
-pub returns-in-Logical-clause-means : goal.returns-in-Logical-clause-means
-returns-in-Logical-clause-means c = λ t named. rw c.in-Logical.is refl
+pub returns-in_ok-push-in-Binary-clause-less : goal.returns-in_ok-push-in-Binary-clause-less
+returns-in_ok-push-in-Binary-clause-less c = λ w. rw c.in-Binary.is (omega (arith, c.in_ok-push-in-Binary.ensures.weight w))
 
-pub returns-in-Conditional-clause-means : goal.returns-in-Conditional-clause-means
-returns-in-Conditional-clause-means c = λ t named. rw c.in-Conditional.is refl
+pub returns-in_ok-push-in-Logical-clause-means : goal.returns-in_ok-push-in-Logical-clause-means
+returns-in_ok-push-in-Logical-clause-means c = λ t named. rw c.in-Logical.is (c.in_ok-push-in-Logical.ensures.means t _)
+
+pub returns-in_ok-push-in-Logical-clause-less : goal.returns-in_ok-push-in-Logical-clause-less
+returns-in_ok-push-in-Logical-clause-less c = λ w. rw c.in-Logical.is (omega (arith, c.in_ok-push-in-Logical.ensures.weight w))
+
+pub returns-in_ok-push-in-Conditional-clause-means : goal.returns-in_ok-push-in-Conditional-clause-means
+returns-in_ok-push-in-Conditional-clause-means c = λ t named. rw c.in-Conditional.is (c.in_ok-push-in-Conditional.ensures.means t _)
+
+pub returns-in_ok-push-in-Conditional-clause-less : goal.returns-in_ok-push-in-Conditional-clause-less
+returns-in_ok-push-in-Conditional-clause-less c = λ w. rw c.in-Conditional.is (omega (arith, c.in_ok-push-in-Conditional.ensures.weight w))
 
 pub returns-in-Assignment-clause-means : goal.returns-in-Assignment-clause-means
 returns-in-Assignment-clause-means c = λ t named. rw (c.in-Assignment.is, c.operator_of.ensures) refl
 
-pub returns-in-Comma-clause-means : goal.returns-in-Comma-clause-means
-returns-in-Comma-clause-means c = λ t named. rw c.in-Comma.is refl
+pub returns-in_ok-push-in-Comma-clause-means : goal.returns-in_ok-push-in-Comma-clause-means
+returns-in_ok-push-in-Comma-clause-means c = λ t named. rw c.in-Comma.is (c.in_ok-push-in-Comma.ensures.means t _)
+
+pub returns-in_ok-push-in-Comma-clause-less : goal.returns-in_ok-push-in-Comma-clause-less
+returns-in_ok-push-in-Comma-clause-less c = λ w. rw c.in-Comma.is (omega (arith, c.in_ok-push-in-Comma.ensures.weight w))
 
 pub returns-in_default-clause-means : goal.returns-in_default-clause-means
-returns-in_default-clause-means c = λ t named. rw c.primitive-in_default.ensures (ap (λ e. M.comp_expr t.program e c.args.env.index) (sym (other.no_expr t.tree c.args.node.now c.in_default.not-IdentifierReference c.in_default.not-This c.in_default.not-NullLiteral c.in_default.not-BooleanLiteral c.in_default.not-NumericLiteral c.in_default.not-StringLiteral c.in_default.not-ArrayLiteral c.in_default.not-ObjectLiteral c.in_default.not-FunctionExpression c.in_default.not-ArrowFunction c.in_default.not-RegularExpressionLiteral c.in_default.not-TemplateLiteral c.in_default.not-Parenthesized c.in_default.not-NamedMember c.in_default.not-ComputedMember c.in_default.not-New c.in_default.not-Call c.in_default.not-PostfixUpdate c.in_default.not-PrefixUpdate c.in_default.not-Unary c.in_default.not-Binary c.in_default.not-Logical c.in_default.not-Conditional c.in_default.not-Assignment c.in_default.not-Comma)))
+returns-in_default-clause-means c = λ t named. rw c.primitive-in_default.ensures (ap (plug t c.args.frames.now.items) (ap (λ e. M.comp_expr t.program e c.args.env.index) (sym (other.no_expr t.tree c.args.node.now c.in_default.not-IdentifierReference c.in_default.not-This c.in_default.not-NullLiteral c.in_default.not-BooleanLiteral c.in_default.not-NumericLiteral c.in_default.not-StringLiteral c.in_default.not-ArrayLiteral c.in_default.not-ObjectLiteral c.in_default.not-FunctionExpression c.in_default.not-ArrowFunction c.in_default.not-RegularExpressionLiteral c.in_default.not-TemplateLiteral c.in_default.not-Parenthesized c.in_default.not-NamedMember c.in_default.not-ComputedMember c.in_default.not-New c.in_default.not-Call c.in_default.not-PostfixUpdate c.in_default.not-PrefixUpdate c.in_default.not-Unary c.in_default.not-Binary c.in_default.not-Logical c.in_default.not-Conditional c.in_default.not-Assignment c.in_default.not-Comma))))
+
+pub returns-in-Unary-clause-less : goal.returns-in-Unary-clause-less
+returns-in-Unary-clause-less c = IfOk-weaker c.begin_unary.result _ _ (λ next less w. rw c.in-Unary.is (omega (arith, less w))) c.begin_unary.ensures.less

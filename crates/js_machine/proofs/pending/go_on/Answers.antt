@@ -1,11 +1,16 @@
-use Rattle.std.proofs.Common.{refl}
+use Rattle.std.proofs.lemmas.Result.{IfOk-weaker}
+use Rattle.std.proofs.Common.{ap, refl, arith}
+use Rattle.js_machine.specs.private.Config.{plug}
 use Rattle.js_machine.proofs.pending.go_on.Goals as goal
 
 pub returns-in-NamedMember-clause-means : goal.returns-in-NamedMember-clause-means
 returns-in-NamedMember-clause-means c = λ t. rw c.in-NamedMember.is refl
 
-pub returns-in-MemberObject-clause-means : goal.returns-in-MemberObject-clause-means
-returns-in-MemberObject-clause-means c = λ t. rw c.in-MemberObject.is refl
+pub returns-in_ok-push-in-MemberObject-clause-means : goal.returns-in_ok-push-in-MemberObject-clause-means
+returns-in_ok-push-in-MemberObject-clause-means c = λ t. rw c.in-MemberObject.is (c.in_ok-push-in-MemberObject.ensures.means t _)
+
+pub returns-in_ok-push-in-MemberObject-clause-less : goal.returns-in_ok-push-in-MemberObject-clause-less
+returns-in_ok-push-in-MemberObject-clause-less c = λ w. rw c.in-MemberObject.is (omega (arith, c.in_ok-push-in-MemberObject.ensures.weight w))
 
 pub returns-in-MemberKey-clause-means : goal.returns-in-MemberKey-clause-means
 returns-in-MemberKey-clause-means c = λ t. rw c.in-MemberKey.is refl
@@ -19,17 +24,20 @@ returns-in-Callee-clause-means c = λ t. rw (c.in-Callee.is, c.new-in-Callee.ens
 pub returns-in-Operand-clause-means : goal.returns-in-Operand-clause-means
 returns-in-Operand-clause-means c = λ t. rw c.in-Operand.is refl
 
-pub returns-in-Left-clause-means : goal.returns-in-Left-clause-means
-returns-in-Left-clause-means c = λ t. rw c.in-Left.is refl
+pub returns-in_ok-push-in-Left-clause-means : goal.returns-in_ok-push-in-Left-clause-means
+returns-in_ok-push-in-Left-clause-means c = λ t. rw c.in-Left.is (c.in_ok-push-in-Left.ensures.means t _)
+
+pub returns-in_ok-push-in-Left-clause-less : goal.returns-in_ok-push-in-Left-clause-less
+returns-in_ok-push-in-Left-clause-less c = λ w. rw c.in-Left.is (omega (arith, c.in_ok-push-in-Left.ensures.weight w))
 
 pub returns-in-Right-clause-means : goal.returns-in-Right-clause-means
 returns-in-Right-clause-means c = λ t. rw c.in-Right.is refl
 
 pub returns-in-Logical-clause-means : goal.returns-in-Logical-clause-means
-returns-in-Logical-clause-means c = λ t. rw c.in-Logical.is (c.logical.ensures.means t)
+returns-in-Logical-clause-means c = λ t. rw c.in-Logical.is (ap (plug t c.args.frames.now.items) (c.logical.ensures.means t))
 
 pub returns-in-Conditional-clause-means : goal.returns-in-Conditional-clause-means
-returns-in-Conditional-clause-means c = λ t. rw c.in-Conditional.is (c.choose.ensures.means t)
+returns-in-Conditional-clause-means c = λ t. rw c.in-Conditional.is (ap (plug t c.args.frames.now.items) (c.choose.ensures.means t))
 
 pub returns-in-Comma-clause-means : goal.returns-in-Comma-clause-means
 returns-in-Comma-clause-means c = λ t. rw c.in-Comma.is refl
@@ -37,32 +45,41 @@ returns-in-Comma-clause-means c = λ t. rw c.in-Comma.is refl
 pub returns-in-ReferNamed-clause-means : goal.returns-in-ReferNamed-clause-means
 returns-in-ReferNamed-clause-means c = λ t. rw c.in-ReferNamed.is refl
 
-pub returns-in-ReferObject-clause-means : goal.returns-in-ReferObject-clause-means
-returns-in-ReferObject-clause-means c = λ t. rw c.in-ReferObject.is refl
+pub returns-in_ok-push-in-ReferObject-clause-means : goal.returns-in_ok-push-in-ReferObject-clause-means
+returns-in_ok-push-in-ReferObject-clause-means c = λ t. rw c.in-ReferObject.is (c.in_ok-push-in-ReferObject.ensures.means t _)
+
+pub returns-in_ok-push-in-ReferObject-clause-less : goal.returns-in_ok-push-in-ReferObject-clause-less
+returns-in_ok-push-in-ReferObject-clause-less c = λ w. rw c.in-ReferObject.is (omega (arith, c.in_ok-push-in-ReferObject.ensures.weight w))
 
 pub returns-in-ReferKey-clause-means : goal.returns-in-ReferKey-clause-means
 returns-in-ReferKey-clause-means c = λ t. rw c.in-ReferKey.is refl
 
 pub returns-in-Put-clause-means : goal.returns-in-Put-clause-means
-returns-in-Put-clause-means c = λ t. rw c.in-Put.is (c.put.ensures.means t)
+returns-in-Put-clause-means c = λ t. rw c.in-Put.is (ap (plug t c.args.frames.now.items) (c.put.ensures.means t))
 
-pub returns-in-Old-clause-means : goal.returns-in-Old-clause-means
-returns-in-Old-clause-means c = λ t. rw c.in-Old.is refl
+pub returns-in_ok-push-in-Old-clause-means : goal.returns-in_ok-push-in-Old-clause-means
+returns-in_ok-push-in-Old-clause-means c = λ t. rw c.in-Old.is (c.in_ok-push-in-Old.ensures.means t _)
 
-pub returns-in-New-clause-means : goal.returns-in-New-clause-means
-returns-in-New-clause-means c = λ t. rw c.in-New.is refl
+pub returns-in_ok-push-in-Old-clause-less : goal.returns-in_ok-push-in-Old-clause-less
+returns-in_ok-push-in-Old-clause-less c = λ w. rw c.in-Old.is (omega (arith, c.in_ok-push-in-Old.ensures.weight w))
+
+pub returns-in_ok-push-in-New-clause-means : goal.returns-in_ok-push-in-New-clause-means
+returns-in_ok-push-in-New-clause-means c = λ t. rw c.in-New.is (c.in_ok-push-in-New.ensures.means t _)
+
+pub returns-in_ok-push-in-New-clause-less : goal.returns-in_ok-push-in-New-clause-less
+returns-in_ok-push-in-New-clause-less c = λ w. rw c.in-New.is (omega (arith, c.in_ok-push-in-New.ensures.weight w))
 
 pub returns-in-Update-clause-means : goal.returns-in-Update-clause-means
-returns-in-Update-clause-means c = λ t. rw c.in-Update.is (c.update.ensures.means t)
+returns-in-Update-clause-means c = IfOk-weaker c.update.result _ _ (λ next means t. rw c.in-Update.is (means t)) c.update.ensures.means
 
 pub returns-in-Instead-clause-means : goal.returns-in-Instead-clause-means
 returns-in-Instead-clause-means c = λ t. rw c.in-Instead.is refl
 
 pub returns-in-TemplatePart-clause-means : goal.returns-in-TemplatePart-clause-means
-returns-in-TemplatePart-clause-means c = rw c.in-TemplatePart.is c.template_text.ensures.means
+returns-in-TemplatePart-clause-means c = IfOk-weaker c.template_text.result _ _ (λ next means t. rw c.in-TemplatePart.is (ap (plug t c.args.frames.now.items) (means t))) c.template_text.ensures.means
 
 pub returns-in-TemplatePart-clause-less : goal.returns-in-TemplatePart-clause-less
-returns-in-TemplatePart-clause-less c = rw c.in-TemplatePart.is c.template_text.ensures.less
+returns-in-TemplatePart-clause-less c = IfOk-weaker c.template_text.result _ _ (λ next less w. rw c.in-TemplatePart.is (omega (arith, less w))) c.template_text.ensures.less
 
 pub returns-in-Property-clause-means : goal.returns-in-Property-clause-means
 returns-in-Property-clause-means c = λ t. rw c.in-Property.is refl
@@ -71,13 +88,13 @@ pub returns-in-As-clause-means : goal.returns-in-As-clause-means
 returns-in-As-clause-means c = λ t. rw c.in-As.is refl
 
 pub returns-in-Key-clause-means : goal.returns-in-Key-clause-means
-returns-in-Key-clause-means c = rw c.in-Key.is c.key_text.ensures.means
+returns-in-Key-clause-means c = IfOk-weaker c.key_text.result _ _ (λ next means t. rw c.in-Key.is (ap (plug t c.args.frames.now.items) (means t))) c.key_text.ensures.means
 
 pub returns-in-Key-clause-less : goal.returns-in-Key-clause-less
-returns-in-Key-clause-less c = rw c.in-Key.is c.key_text.ensures.less
+returns-in-Key-clause-less c = IfOk-weaker c.key_text.result _ _ (λ next less w. rw c.in-Key.is (omega (arith, less w))) c.key_text.ensures.less
 
 pub returns-in-BindTo-clause-means : goal.returns-in-BindTo-clause-means
-returns-in-BindTo-clause-means c = λ t. rw c.in-BindTo.is (c.bind_to.ensures.means t)
+returns-in-BindTo-clause-means c = λ t. rw c.in-BindTo.is (ap (plug t c.args.frames.now.items) (c.bind_to.ensures.means t))
 
 pub returns-in-Declarator-clause-means : goal.returns-in-Declarator-clause-means
 returns-in-Declarator-clause-means c = λ t. rw c.in-Declarator.is refl
@@ -89,10 +106,10 @@ pub returns-in-Statement-clause-means : goal.returns-in-Statement-clause-means
 returns-in-Statement-clause-means c = λ t. rw c.in-Statement.is refl
 
 pub returns-in-Choose-clause-means : goal.returns-in-Choose-clause-means
-returns-in-Choose-clause-means c = λ t. rw c.in-Choose.is (c.choose_statement.ensures.means t)
+returns-in-Choose-clause-means c = λ t. rw c.in-Choose.is (ap (plug t c.args.frames.now.items) (c.choose_statement.ensures.means t))
 
 pub returns-in-Turn-clause-means : goal.returns-in-Turn-clause-means
-returns-in-Turn-clause-means c = λ t. rw c.in-Turn.is (c.turn.ensures.means t)
+returns-in-Turn-clause-means c = λ t. rw c.in-Turn.is (ap (plug t c.args.frames.now.items) (c.turn.ensures.means t))
 
 pub returns-in-Started-clause-means : goal.returns-in-Started-clause-means
 returns-in-Started-clause-means c = λ t. rw c.in-Started.is refl
@@ -101,16 +118,16 @@ pub returns-in-Updated-clause-means : goal.returns-in-Updated-clause-means
 returns-in-Updated-clause-means c = λ t. rw c.in-Updated.is refl
 
 pub returns-in-Subject-clause-means : goal.returns-in-Subject-clause-means
-returns-in-Subject-clause-means c = λ t. rw c.in-Subject.is (c.subject.ensures.means t)
+returns-in-Subject-clause-means c = λ t. rw c.in-Subject.is (ap (plug t c.args.frames.now.items) (c.subject.ensures.means t))
 
 pub returns-in-Taken-clause-means : goal.returns-in-Taken-clause-means
-returns-in-Taken-clause-means c = λ t. rw c.in-Taken.is (c.take_pass.ensures.means t c.args.value)
+returns-in-Taken-clause-means c = λ t. rw c.in-Taken.is (ap (plug t c.args.frames.now.items) (c.take_pass.ensures.means t c.args.value))
 
 pub returns-in-Switch-clause-means : goal.returns-in-Switch-clause-means
 returns-in-Switch-clause-means c = λ t. rw c.in-Switch.is refl
 
 pub returns-in-Tested-clause-means : goal.returns-in-Tested-clause-means
-returns-in-Tested-clause-means c = λ t. rw c.in-Tested.is (c.tested.ensures.means t)
+returns-in-Tested-clause-means c = IfOk-weaker c.tested.result _ _ (λ next means t. rw c.in-Tested.is (means t)) c.tested.ensures.means
 
 pub returns-in-Fallen-clause-means : goal.returns-in-Fallen-clause-means
 returns-in-Fallen-clause-means c = λ t. rw c.in-Fallen.is refl
@@ -124,14 +141,50 @@ returns-in-Throw-clause-means c = λ t. rw c.in-Throw.is refl
 pub returns-in-OwnName-clause-means : goal.returns-in-OwnName-clause-means
 returns-in-OwnName-clause-means c = λ t. rw c.in-OwnName.is refl
 
-pub returns-in-Param-clause-means : goal.returns-in-Param-clause-means
-returns-in-Param-clause-means c = λ t. rw c.in-Param.is refl
+pub returns-in_ok-push-in-Param-clause-means : goal.returns-in_ok-push-in-Param-clause-means
+returns-in_ok-push-in-Param-clause-means c = λ t. rw c.in-Param.is (c.in_ok-push-in-Param.ensures.means t _)
+
+pub returns-in_ok-push-in-Param-clause-less : goal.returns-in_ok-push-in-Param-clause-less
+returns-in_ok-push-in-Param-clause-less c = λ w. rw c.in-Param.is (omega (arith, c.in_ok-push-in-Param.ensures.weight w))
 
 pub returns-in-NextParam-clause-means : goal.returns-in-NextParam-clause-means
-returns-in-NextParam-clause-means c = λ t. rw c.in-NextParam.is (c.next_param.ensures.means t c.args.value)
+returns-in-NextParam-clause-means c = λ t. rw c.in-NextParam.is (ap (plug t c.args.frames.now.items) (c.next_param.ensures.means t c.args.value))
 
 pub returns-in-Bound-clause-means : goal.returns-in-Bound-clause-means
 returns-in-Bound-clause-means c = λ t. rw c.in-Bound.is refl
 
 pub returns-in_ok-push-in-Item-clause-means : goal.returns-in_ok-push-in-Item-clause-means
 returns-in_ok-push-in-Item-clause-means c = λ t. rw (c.in-Item.is, c.in_ok-push-in-Item.ensures.ok) refl
+
+pub returns-in-Update-clause-less : goal.returns-in-Update-clause-less
+returns-in-Update-clause-less c = IfOk-weaker c.update.result _ _ (λ next less w. rw c.in-Update.is (less w)) c.update.ensures.less
+
+pub returns-in-Tested-clause-less : goal.returns-in-Tested-clause-less
+returns-in-Tested-clause-less c = IfOk-weaker c.tested.result _ _ (λ next less w. rw c.in-Tested.is (less w)) c.tested.ensures.less
+
+pub returns-in-Logical-clause-less : goal.returns-in-Logical-clause-less
+returns-in-Logical-clause-less c = λ w. rw c.in-Logical.is (omega (arith, c.logical.ensures.less w))
+
+pub returns-in-Conditional-clause-less : goal.returns-in-Conditional-clause-less
+returns-in-Conditional-clause-less c = λ w. rw c.in-Conditional.is (omega (arith, c.choose.ensures.less w))
+
+pub returns-in-Put-clause-less : goal.returns-in-Put-clause-less
+returns-in-Put-clause-less c = λ w. rw c.in-Put.is (omega (arith, c.put.ensures.less w))
+
+pub returns-in-BindTo-clause-less : goal.returns-in-BindTo-clause-less
+returns-in-BindTo-clause-less c = λ w. rw c.in-BindTo.is (omega (arith, c.bind_to.ensures.less w))
+
+pub returns-in-Choose-clause-less : goal.returns-in-Choose-clause-less
+returns-in-Choose-clause-less c = λ w. rw c.in-Choose.is (omega (arith, c.choose_statement.ensures.less w))
+
+pub returns-in-Turn-clause-less : goal.returns-in-Turn-clause-less
+returns-in-Turn-clause-less c = λ w. rw c.in-Turn.is (omega (arith, c.turn.ensures.less w))
+
+pub returns-in-Subject-clause-less : goal.returns-in-Subject-clause-less
+returns-in-Subject-clause-less c = λ w. rw c.in-Subject.is (omega (arith, c.subject.ensures.less w))
+
+pub returns-in-Taken-clause-less : goal.returns-in-Taken-clause-less
+returns-in-Taken-clause-less c = λ w. rw c.in-Taken.is (omega (arith, c.take_pass.ensures.less w))
+
+pub returns-in-NextParam-clause-less : goal.returns-in-NextParam-clause-less
+returns-in-NextParam-clause-less c = λ w. rw c.in-NextParam.is (omega (arith, c.next_param.ensures.less w))

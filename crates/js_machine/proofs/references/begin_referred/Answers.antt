@@ -1,8 +1,9 @@
-use Rattle.std.proofs.Common.{refl, ap}
+use Rattle.js_machine.specs.declared.data.Frame.TheVariants as frame
+use Rattle.std.proofs.Common.{refl, ap, ◌∙◌, arith}
 use Rattle.js_meaning.specs.Meaning as M
 use Rattle.js_meaning.specs.Effects.{handle}
 use Rattle.js_machine.specs.declared.data.Pending.TheVariants as pending
-use Rattle.js_machine.specs.private.Config.{pending_comp}
+use Rattle.js_machine.specs.private.Config.{pending_comp, plug, frame_comp, control_comp}
 use Rattle.js_machine.proofs.references.begin_referred.Goals as goal
 
 pub returns-in-Call-clause-means : goal.returns-in-Call-clause-means
@@ -11,8 +12,13 @@ returns-in-Call-clause-means c = rw c.in-Call.is c.call_reference.ensures.means
 pub returns-in-Call-clause-less : goal.returns-in-Call-clause-less
 returns-in-Call-clause-less c = rw c.in-Call.is c.call_reference.ensures.less
 
-pub returns-in_ok-same-in-Update-clause-means : goal.returns-in_ok-same-in-Update-clause-means
-returns-in_ok-same-in-Update-clause-means c = λ t. rw (c.in-Update.is, c.in_ok-same-in-Update.ensures) (ap (λ d. handle d (M.with_value (pending_comp t (pending.Update c.in-Update.prefix c.in-Update.operator c.args.reference c.args.env)))) (c.get.ensures.means t))
+pub returns-in_ok-push-in-Update-clause-means : goal.returns-in_ok-push-in-Update-clause-means
+returns-in_ok-push-in-Update-clause-means c = λ t. rw c.in-Update.is (c.in_ok-push-in-Update.ensures.means t _
+    ∙ ap (λ r. plug t c.args.frames.now.items (handle (control_comp t c.get.result) (frame_comp t (frame.Value (pending.Update c.in-Update.prefix c.in-Update.operator r c.args.env))))) c.in_ok-same-in-Update.ensures
+    ∙ ap (λ d. plug t c.args.frames.now.items (handle d (M.with_value (pending_comp t (pending.Update c.in-Update.prefix c.in-Update.operator c.args.reference c.args.env))))) (c.get.ensures.means t))
+
+pub returns-in_ok-push-in-Update-clause-less : goal.returns-in_ok-push-in-Update-clause-less
+returns-in_ok-push-in-Update-clause-less c = λ w. rw c.in-Update.is (omega (arith, c.in_ok-push-in-Update.ensures.weight w, c.get.ensures.less w))
 
 pub returns-in-Delete-clause-means : goal.returns-in-Delete-clause-means
 returns-in-Delete-clause-means c = λ t. rw c.in-Delete.is refl
@@ -23,5 +29,8 @@ returns-in-Assign-clause-means c = rw c.in-Assign.is c.assign.ensures.means
 pub returns-in-Assign-clause-less : goal.returns-in-Assign-clause-less
 returns-in-Assign-clause-less c = rw c.in-Assign.is c.assign.ensures.less
 
-pub returns-in-Take-clause-means : goal.returns-in-Take-clause-means
-returns-in-Take-clause-means c = λ t. rw c.in-Take.is (ap (λ d. handle d (M.with_value (pending_comp t (pending.Taken c.in-Take.round c.args.env c.in-Take.rest)))) (c.put.ensures.means t))
+pub returns-in_ok-push-in-Take-clause-means : goal.returns-in_ok-push-in-Take-clause-means
+returns-in_ok-push-in-Take-clause-means c = λ t. rw c.in-Take.is (c.in_ok-push-in-Take.ensures.means t _ ∙ ap (plug t c.args.frames.now.items) (ap (λ d. handle d (M.with_value (pending_comp t (pending.Taken c.in-Take.round c.args.env c.in-Take.rest)))) (c.put.ensures.means t)))
+
+pub returns-in_ok-push-in-Take-clause-less : goal.returns-in_ok-push-in-Take-clause-less
+returns-in_ok-push-in-Take-clause-less c = λ w. rw c.in-Take.is (omega (arith, c.in_ok-push-in-Take.ensures.weight w, c.put.ensures.less w))

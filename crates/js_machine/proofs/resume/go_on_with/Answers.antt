@@ -1,4 +1,4 @@
-use Rattle.std.proofs.Common.{refl}
+use Rattle.std.proofs.Common.{refl, arith}
 use Rattle.js_machine.proofs.resume.go_on_with.Goals as goal
 
 pub returns-in-Normal-clause-means : goal.returns-in-Normal-clause-means
@@ -15,3 +15,15 @@ returns-in-Return-clause-means c = λ t. rw (c.in-Return.is, c.pass_by-in-Return
 
 pub returns-in-Throw-clause-means : goal.returns-in-Throw-clause-means
 returns-in-Throw-clause-means c = λ t. rw (c.in-Throw.is, c.pass_by-in-Throw.ensures.means) refl
+
+pub returns-in-Break-clause-less : goal.returns-in-Break-clause-less
+returns-in-Break-clause-less c = λ w. rw c.pass_by.ensures.means (omega (arith, c.pass_by.ensures.less w))
+
+pub returns-in-Continue-clause-less : goal.returns-in-Continue-clause-less
+returns-in-Continue-clause-less c = λ w. rw c.pass_by-in-Continue.ensures.means (omega (arith, c.pass_by-in-Continue.ensures.less w))
+
+pub returns-in-Return-clause-less : goal.returns-in-Return-clause-less
+returns-in-Return-clause-less c = λ w. rw c.pass_by-in-Return.ensures.means (omega (arith, c.pass_by-in-Return.ensures.less w))
+
+pub returns-in-Throw-clause-less : goal.returns-in-Throw-clause-less
+returns-in-Throw-clause-less c = λ w. rw c.pass_by-in-Throw.ensures.means (omega (arith, c.pass_by-in-Throw.ensures.less w))
