@@ -10,7 +10,7 @@ use Rattle.cov_run.specs.declared.fault.LoadFault.{LoadFault}
 use Rattle.cov_run.specs.declared.fault.LoadFault.TheVariants as fault
 use Rattle.cov_words.specs.declared.command.Command.TheVariants.{OnSource}
 use Rattle.cov_words.specs.declared.command.SourceTask.{SourceTask}
-use Rattle.cov_words.specs.declared.command.SourceTask.TheVariants.{Maps, Exec, Run}
+use Rattle.cov_words.specs.declared.command.SourceTask.TheVariants.{Maps, Exec, Run, Demo}
 use Rattle.cov_commands.specs.Coverage.{json_line}
 use Rattle.cov_commands.specs.Line as said
 use Rattle.cov_commands.specs.Program as program
@@ -31,6 +31,7 @@ pub counts_puts : (task : SourceTask) (file : List ℕ) (before after : ℕ) →
 counts_puts Maps file before after is = is
 counts_puts (Exec turns) file before after is = is
 counts_puts (Run turns out exclude) file before after is = is
+counts_puts (Demo seed count) file before after is = is
 
 pub counts_on : (task : SourceTask) (file : List ℕ) {old before : ℕ} (after : ℕ) → before ≡ old → CountsPuts task before after → program.CountsPuts (Some (OnSource task file)) old after
 counts_on task file after same is = subst (λ n. program.CountsPuts (Some (OnSource task file)) n after) same (counts_puts task file _ after is)
@@ -39,6 +40,7 @@ pub same_counts : (task : SourceTask) (file : List ℕ) (before after : ℕ) →
 same_counts Maps file before after same = same
 same_counts (Exec turns) file before after same = same
 same_counts (Run turns out exclude) file before after same = omega (arith, same)
+same_counts (Demo seed count) file before after same = same
 
 -- ---- there is no answer
 
@@ -55,6 +57,7 @@ module _ (task : SourceTask) (file : List ℕ) (told : Option Held) where
 none_stored : (task : SourceTask) (file : List ℕ) (told : Option Held) (why : LoadFault) → Stores (Some (OnSource task file)) (status_of_fault why) told told
 none_stored Maps file told why = refl
 none_stored (Exec turns) file told why = refl
+none_stored (Demo seed count) file told why = refl
 none_stored (Run turns out exclude) file told why = none_put (Run turns out exclude) file told why out
 
 pub fault_stores : (task : SourceTask) (file : List ℕ) (told : Option Held) (why : LoadFault) → ComesTo file told task (Err why) → {message : said.Message} → message ≡ message_of_fault file why →
@@ -122,17 +125,20 @@ module _ (file : List ℕ) (told after : Option Held) (answer : Answer) where
   pub end_stores : (task : SourceTask) → ComesTo file told task (Ok answer) → StoredBy task answer.coverage told after (Ok tt) → Stores (Some (OnSource task file)) (status_of_end answer.end) told after
   end_stores Maps comes stored = stored
   end_stores (Exec turns) comes stored = stored
+  end_stores (Demo seed count) comes stored = stored
   end_stores (Run turns out exclude) comes stored = put_ended turns out exclude file answer told after comes stored answer.end refl
 
   -- a fault, or want of memory
   pub failed_stores : (task : SourceTask) (result : Result (Unit {0}) Failed) → StoredBy task answer.coverage told after result → Stores (Some (OnSource task file)) status.WriteFault told after
   failed_stores Maps result stored = stored
   failed_stores (Exec turns) result stored = stored
+  failed_stores (Demo seed count) result stored = stored
   failed_stores (Run turns out exclude) result stored = others_kept turns out exclude answer.coverage told after result stored
 
   pub wanting_stores : (task : SourceTask) (result : Result (Unit {0}) Failed) → StoredBy task answer.coverage told after result → Stores (Some (OnSource task file)) status.Memory told after
   wanting_stores Maps result stored = stored
   wanting_stores (Exec turns) result stored = stored
+  wanting_stores (Demo seed count) result stored = stored
   wanting_stores (Run turns out exclude) result stored = others_kept turns out exclude answer.coverage told after result stored
 
   -- the end was said

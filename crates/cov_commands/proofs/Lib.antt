@@ -1,4 +1,5 @@
 pub mod Answered
+pub mod DemoLemmas
 pub mod Due
 pub mod FailedReads
 pub mod FailedSources

@@ -4,7 +4,7 @@ use Rattle.cov_base.specs.Store.{Held, BothTell, KeepsOthers}
 use Rattle.cov_base.specs.Sink.{after_more, TakesPrefix}
 use Rattle.cov_inputs.specs.Inputs.{Input, AreRead}
 use Rattle.cov_words.specs.declared.command.CoverageTask.TheVariants.{Merge, Report, Check}
-use Rattle.cov_words.specs.declared.command.SourceTask.TheVariants.{Maps, Exec, Run}
+use Rattle.cov_words.specs.declared.command.SourceTask.TheVariants.{Maps, Exec, Run, Demo}
 use Rattle.cov_commands.specs.Source as source
 use Rattle.cov_words.specs.declared.command.Command.{Command}
 use Rattle.cov_words.specs.declared.command.Command.TheVariants.{Help, OnSource, Instrument, OnCoverage, OnV8}
@@ -105,6 +105,7 @@ stores_nothing (Some (OnSource Maps file)) told is = refl
 stores_nothing (Some (OnSource (Exec turns) file)) told is = refl
 stores_nothing (Some (OnSource (Run turns out exclude) file)) told (inl e) = subst (λ s. source.Puts s (Run turns out exclude) out file told told) (sym e) (others_stay told out)
 stores_nothing (Some (OnSource (Run turns out exclude) file)) told (inr e) = subst (λ s. source.Puts s (Run turns out exclude) out file told told) (sym e) (others_stay told out)
+stores_nothing (Some (OnSource (Demo seed count) file)) told is = refl
 stores_nothing (Some (Instrument out files)) told (inl e) = subst (λ s. Puts s out files told told) (sym e) (inl refl)
 stores_nothing (Some (Instrument out files)) told (inr e) = subst (λ s. Puts s out files told told) (sym e) (inl refl)
 stores_nothing (Some (OnCoverage (Merge out) files)) told is = record {
@@ -126,6 +127,7 @@ counts_no_puts (Some Help) count = refl
 counts_no_puts (Some (OnSource Maps file)) count = refl
 counts_no_puts (Some (OnSource (Exec turns) file)) count = refl
 counts_no_puts (Some (OnSource (Run turns out exclude) file)) count = omega arith
+counts_no_puts (Some (OnSource (Demo seed functions) file)) count = refl
 counts_no_puts (Some (Instrument out files)) count = omega arith
 counts_no_puts (Some (OnCoverage (Merge out) files)) count = omega arith
 counts_no_puts (Some (OnCoverage (Report which) files)) count = refl

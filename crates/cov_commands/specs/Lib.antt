@@ -1,4 +1,6 @@
 pub mod Coverage
+pub mod Demo
+pub mod DemoFile
 pub mod Help
 pub mod Instrument
 pub mod Line

@@ -1,5 +1,5 @@
--- What is owed for a command on a source, which `maps`, `exec` and `run` are: when each status is due, what is printed, what is
--- put, and what is said.
+-- What is owed for a command on a source, which `maps`, `exec`, `run` and `demo` are: when each status is due, what is printed, what
+-- is put, and what is said.
 use Rattle.std.specs.Prelude.{◌≡◌, ℕ, List, [], ◌∷◌, ◌++◌, Option, None, Some, Result, Ok, Err, codes, if◌then◌else◌}
 use Rattle.js_tree.specs.declared.place.Pos.{Pos}
 use Rattle.js_tree.specs.Comments.{ignores_file}
@@ -23,7 +23,7 @@ use Rattle.cov_sources.specs.declared.source.Source.{Source}
 use Rattle.cov_sources.specs.declared.why.Why.{Why}
 use Rattle.cov_sources.specs.declared.why.Why.TheVariants as why
 use Rattle.cov_words.specs.declared.command.SourceTask.{SourceTask}
-use Rattle.cov_words.specs.declared.command.SourceTask.TheVariants.{Maps, Exec, Run}
+use Rattle.cov_words.specs.declared.command.SourceTask.TheVariants.{Maps, Exec, Run, Demo}
 use Rattle.cov_run.specs.Exec.{Runs}
 use Rattle.cov_run.specs.Loaded.{IsSource, IsUnread, Loaded}
 use Rattle.cov_run.specs.Session.{Counts}
@@ -31,6 +31,7 @@ use Rattle.cov_run.specs.declared.fault.LoadFault.{LoadFault}
 use Rattle.cov_run.specs.declared.fault.LoadFault.TheVariants as fault
 use Rattle.cov_hash.specs.Hash.{hash_text}
 use Rattle.cov_commands.specs.Coverage.{json_line}
+use Rattle.cov_commands.specs.Demo.{demo_held, demo_source, demo_summary, demo_turns}
 use Rattle.cov_commands.specs.Line as said
 use Rattle.cov_commands.specs.declared.answer.Answer.{Answer}
 use Rattle.cov_commands.specs.declared.status.Status.{Status}
@@ -61,10 +62,14 @@ answer_of_run run = record { output = run.store.output; end = run.end; coverage 
 abbrev pub answer_of_counted : PlainRun → List FileCoverage → Answer
 answer_of_counted run files = record { output = run.store.output; end = run.end; coverage = Some files }
 
+-- and of such a run of `demo`: the sums of the coverage stand after what was printed
+abbrev pub answer_of_demo : PlainRun → List FileCoverage → Answer
+answer_of_demo run files = record { output = run.store.output ++ demo_summary files; end = run.end; coverage = None }
+
 -- ---- what a task comes to; `told` is what the store holds, where it tells
 
 -- a task on the file at a path: its answer, or why there is none. `maps` reads the file by itself, `exec` and `run` load it with all that
--- it asks for.
+-- it asks for, and `demo` makes it.
 pub data ComesTo (file : List ℕ) (told : Option Held) : SourceTask → Result Answer LoadFault → Type 0 where
   mapped : {bytes : List ℕ} {tree : File} → IsSource told file bytes tree → ComesTo file told Maps (Ok (answer_of_maps file bytes tree))
   unread : {why : LoadFault} → IsUnread told file why → ComesTo file told Maps (Err why)
@@ -73,6 +78,9 @@ pub data ComesTo (file : List ℕ) (told : Option Held) : SourceTask → Result 
   counted : {sources : List Source} {turns : ℕ} {out : List ℕ} {exclude : List (List ℕ)} {run : PlainRun} {files : List FileCoverage} → Loaded told file exclude (Ok sources) →
       Counts sources turns run → IsCoverage run.store.heap files → ComesTo file told (Run turns out exclude) (Ok (answer_of_counted run files))
   uncounted : {turns : ℕ} {out : List ℕ} {exclude : List (List ℕ)} {why : LoadFault} → Loaded told file exclude (Err why) → ComesTo file told (Run turns out exclude) (Err why)
+  demonstrated : {seed count : ℕ} {run : PlainRun} {files : List FileCoverage} → Counts (demo_source file seed count ∷ []) demo_turns run → IsCoverage run.store.heap files →
+      ComesTo file told (Demo seed count) (Ok (answer_of_demo run files))
+  undemonstrated : {seed count : ℕ} {why : LoadFault} → IsUnread (Some (demo_held seed count)) file why → ComesTo file told (Demo seed count) (Err why)
 
 -- ---- the line on standard error
 
@@ -105,6 +113,7 @@ abbrev pub turns_of : SourceTask → ℕ
 turns_of Maps = 0
 turns_of (Exec turns) = turns
 turns_of (Run turns out exclude) = turns
+turns_of (Demo seed count) = demo_turns
 
 -- what is said of an end, which of Done is nothing
 abbrev pub said_of : SourceTask → End → Option said.Message

@@ -1,3 +1,4 @@
 pub mod HandedOn
 pub mod Performed
+pub mod Shown
 pub mod Written

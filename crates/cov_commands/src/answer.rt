@@ -3,6 +3,7 @@ ghost use Rattle.cov_base.specs.Causes.{Rose};
 ghost use Rattle.cov_run.specs.declared.fault.LoadFault.TheVariants.{ReadFault};
 ghost use Rattle.cov_commands.specs.Source.{ComesTo};
 
+use crate::demo::demo;
 use crate::exec::exec;
 use crate::maps::maps;
 use crate::run::run;
@@ -46,5 +47,6 @@ pub(crate) fn answer_to<S: Store>(
             out: _,
             exclude,
         } => run(alloc, *turns, exclude.as_slice(), path, store),
+        SourceTask::Demo { seed, count } => demo(alloc, *seed, *count, path),
     }
 }

@@ -56,5 +56,6 @@ fn put_coverage<S: Store>(
         },
         SourceTask::Maps => Ok(()),
         SourceTask::Exec { turns: _ } => Ok(()),
+        SourceTask::Demo { seed: _, count: _ } => Ok(()),
     }
 }

@@ -2,6 +2,7 @@ ghost use Rattle.std.specs.Prelude.{◌≡◌, option_map};
 ghost use Rattle.cov_commands.specs.Source as spec;
 ghost use Rattle.cov_commands.specs.Line.{message_of};
 
+use crate::demo::DEMO_TURNS;
 use crate::line::Complaint;
 use cov_words::SourceTask;
 use js_meaning::End;
@@ -18,6 +19,7 @@ fn turns_of(task: &SourceTask) -> u64
             out: _,
             exclude: _,
         } => *turns,
+        SourceTask::Demo { seed: _, count: _ } => DEMO_TURNS,
     }
 }
 

@@ -117,5 +117,5 @@ v8_file out file plain other some =
 
 pub other_name : OtherName
 unfolding clap_on_literals
-other_name name words plain no_maps no_exec no_instrument no_merge no_report no_check no_v8 no_run =
-    rw (no_help name words plain, no_maps, no_exec, no_instrument, no_run, no_merge, no_report, no_check, no_v8, no_dashes name plain, no_dash name plain, no_dash name plain) refl
+other_name name words plain no_maps no_exec no_instrument no_merge no_report no_check no_v8 no_run no_demo =
+    rw (no_help name words plain, no_maps, no_exec, no_instrument, no_run, no_merge, no_report, no_check, no_demo, no_v8, no_dashes name plain, no_dash name plain, no_dash name plain) refl

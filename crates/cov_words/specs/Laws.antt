@@ -70,8 +70,8 @@ abbrev pub V8File : Type 0
 V8File = (out file : List ℕ) → IsPlain out → IsPlain file → bytes_eq out [] ≡ false →
     command_of (codes "v8" ∷ codes "--out" ∷ out ∷ file ∷ []) ≡ Some (OnV8 out (file ∷ []))
 
--- another name than those of the eight commands, whatever follows it
+-- another name than those of the nine commands, whatever follows it
 abbrev pub OtherName : Type 0
 OtherName = (name : List ℕ) (words : List (List ℕ)) → IsPlain name → bytes_eq (codes "maps") name ≡ false → bytes_eq (codes "exec") name ≡ false →
     bytes_eq (codes "instrument") name ≡ false → bytes_eq (codes "merge") name ≡ false → bytes_eq (codes "report") name ≡ false → bytes_eq (codes "check") name ≡ false → bytes_eq (codes "v8") name ≡ false →
-    bytes_eq (codes "run") name ≡ false → command_of (name ∷ words) ≡ None
+    bytes_eq (codes "run") name ≡ false → bytes_eq (codes "demo") name ≡ false → command_of (name ∷ words) ≡ None

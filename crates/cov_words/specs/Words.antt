@@ -7,6 +7,7 @@
 --     merge --out P FILE..
 --     report [--reporter R] FILE..
 --     check [--lines N] [--statements N] [--branches N] [--functions N] FILE..
+--     demo SEED COUNT
 --     v8 --out P FILE..
 -- `--help` stands alone. All others are read as the kit's clap says: a form is clap's data, `fault_of` says of a form and words what is wrong with them,
 -- and `subcommand_of` the command that they name and what it finds for each of its arguments.
@@ -24,7 +25,7 @@ use Rattle.cov_summary.specs.declared.shortfall.Thresholds.{Thresholds}
 use Rattle.cov_words.specs.declared.command.Command.{Command}
 use Rattle.cov_words.specs.declared.command.Command.TheVariants.{Help, OnSource, Instrument, OnCoverage, OnV8}
 use Rattle.cov_words.specs.declared.command.SourceTask.{SourceTask}
-use Rattle.cov_words.specs.declared.command.SourceTask.TheVariants.{Maps, Exec, Run}
+use Rattle.cov_words.specs.declared.command.SourceTask.TheVariants.{Maps, Exec, Run, Demo}
 use Rattle.cov_words.specs.declared.command.CoverageTask.{CoverageTask}
 use Rattle.cov_words.specs.declared.command.CoverageTask.TheVariants.{Merge, Report, Check}
 use Rattle.cov_words.specs.declared.command.Reporter.{Reporter}
@@ -68,6 +69,14 @@ coverage_rule = record (option_rule (codes "out")) { defaults = codes "coverage.
 abbrev pub exclude_rule : Rule
 exclude_rule = option_rule (codes "exclude")
 
+-- SEED: a number of 64 bits
+abbrev pub seed_rule : Rule
+seed_rule = record (new_rule (codes "seed")) { required = true; parser = Some (parser.Unsigned 0 18446744073709551615) }
+
+-- COUNT: a number from 0 to 10,000
+abbrev pub count_rule : Rule
+count_rule = record (new_rule (codes "count")) { required = true; parser = Some (parser.Unsigned 0 10000) }
+
 -- `--reporter R`, by default `text`
 abbrev pub reporter_rule : Rule
 reporter_rule = record (option_rule (codes "reporter")) { defaults = codes "text" ∷ [] }
@@ -87,6 +96,9 @@ instrument_form = with_rule (with_rule (new_app (codes "instrument")) out_rule) 
 
 abbrev pub run_form : App
 run_form = with_rule (with_rule (with_rule (with_rule (new_app (codes "run")) turns_rule) coverage_rule) exclude_rule) file_rule
+
+abbrev pub demo_form : App
+demo_form = with_rule (with_rule (new_app (codes "demo")) seed_rule) count_rule
 
 abbrev pub merge_form : App
 merge_form = with_rule (with_rule (new_app (codes "merge")) out_rule) files_rule
@@ -122,7 +134,7 @@ abbrev pub with_coverage_forms : App → App
 with_coverage_forms form = with_subcommand (with_subcommand (with_subcommand form merge_form.top) report_form.top) check_form.top
 
 abbrev pub cov_form : App
-cov_form = with_subcommand (with_coverage_forms source_forms) v8_form.top
+cov_form = with_subcommand (with_subcommand (with_coverage_forms source_forms) demo_form.top) v8_form.top
 
 -- ---- what the words ask
 
@@ -160,6 +172,13 @@ number_in text = if is_unsigned_in 0 18446744073709551615 text then Some (digits
 -- the number found for an option
 abbrev pub number_found : Text → List Row → Option ℕ
 number_found name rows = option_and_then number_in (one_of name rows)
+
+-- the numbers of `demo`
+abbrev pub seed_in : List Row → Option ℕ
+seed_in rows = number_found (codes "seed") rows
+
+abbrev pub count_in : List Row → Option ℕ
+count_in rows = number_found (codes "count") rows
 
 -- the turns of `exec` and `run`: those of the words, or by default
 abbrev pub turns_in : List Row → Option ℕ
@@ -217,6 +236,13 @@ exec_in rows = option_map Exec (turns_in rows)
 abbrev pub run_in : List Row → Option SourceTask
 run_in rows = option_and_then (λ turns. option_map (λ out. Run turns out (exclude_in rows)) (out_in rows)) (turns_in rows)
 
+-- `demo` is on a file that is at the path `demo.js`
+abbrev pub demo_of : ℕ → ℕ → Command
+demo_of seed count = OnSource (Demo seed count) (codes "demo.js")
+
+abbrev pub demo_in : List Row → Option Command
+demo_in rows = option_and_then (λ seed. option_map (demo_of seed) (count_in rows)) (seed_in rows)
+
 abbrev pub merge_in : List Row → Option CoverageTask
 merge_in rows = option_map Merge (out_in rows)
 
@@ -253,8 +279,9 @@ request_in (name, rows) =
     else (if bytes_eq name (codes "exec") then on_source (exec_in rows) rows
     else (if bytes_eq name (codes "instrument") then instrument_in rows
     else (if bytes_eq name (codes "run") then on_source (run_in rows) rows
+    else (if bytes_eq name (codes "demo") then demo_in rows
     else (if bytes_eq name (codes "v8") then on_v8 rows
-    else on_coverage (coverage_task name rows) rows))))
+    else on_coverage (coverage_task name rows) rows)))))
 
 -- the command that the words name, where nothing is wrong with them
 abbrev pub found_in : List Text → Option (Text × List Row)

@@ -82,6 +82,21 @@ run_rows =
 abbrev pub Runs : Type 0
 Runs = Asks run_rows
 
+-- `demo`, which needs two numbers
+abbrev pub demo : ℕ → ℕ → Option Command
+demo seed count = Some (OnSource (task.Demo seed count) (codes "demo.js"))
+
+abbrev pub demo_rows : List (List (List ℕ) × Option Command)
+demo_rows =
+    (codes "demo" ∷ codes "7" ∷ codes "1" ∷ [], demo 7 1) ∷
+    (codes "demo" ∷ codes "0" ∷ codes "10000" ∷ [], demo 0 10000) ∷
+    (codes "demo" ∷ codes "18446744073709551615" ∷ codes "+007" ∷ [], demo 18446744073709551615 7) ∷
+    (codes "demo" ∷ codes "--" ∷ codes "1" ∷ codes "2" ∷ [], demo 1 2) ∷
+    []
+
+abbrev pub Demos : Type 0
+Demos = Asks demo_rows
+
 -- `merge`, which needs P and one FILE or more, in any order
 abbrev pub merge : List ℕ → List (List ℕ) → Option Command
 merge out files = Some (OnCoverage (Merge out) files)
@@ -202,6 +217,13 @@ unread =
     (codes "run" ∷ codes "--turns" ∷ codes "9007199254740992" ∷ codes "a.js" ∷ []) ∷
     (codes "run" ∷ codes "--exclude" ∷ codes "a" ∷ codes "--exclude" ∷ codes "b" ∷ codes "a.js" ∷ []) ∷
     (codes "run" ∷ codes "a.js" ∷ codes "--exclude" ∷ []) ∷
+    (codes "demo" ∷ codes "1" ∷ []) ∷
+    (codes "demo" ∷ codes "1" ∷ codes "2" ∷ codes "3" ∷ []) ∷
+    (codes "demo" ∷ codes "1" ∷ codes "10001" ∷ []) ∷
+    (codes "demo" ∷ codes "18446744073709551616" ∷ codes "1" ∷ []) ∷
+    (codes "demo" ∷ codes "x" ∷ codes "1" ∷ []) ∷
+    (codes "demo" ∷ codes "1" ∷ [] ∷ []) ∷
+    (codes "demo" ∷ codes "--turns" ∷ codes "1" ∷ codes "1" ∷ codes "1" ∷ []) ∷
     (codes "merge" ∷ codes "a.json" ∷ []) ∷
     (codes "merge" ∷ codes "--out" ∷ codes "p" ∷ []) ∷
     (codes "merge" ∷ codes "--out=" ∷ codes "a.json" ∷ []) ∷

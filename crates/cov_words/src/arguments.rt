@@ -23,6 +23,20 @@ pub(crate) fn turns_in(own: &ArgMatches<'_>) -> Option<u64>
     number_in(own, "turns")
 }
 
+/// The number that was found for SEED.
+pub(crate) fn seed_in(own: &ArgMatches<'_>) -> Option<u64>
+    ensures { result ≡ spec.seed_in (rows_of (found_of own.now)) }
+{
+    number_in(own, "seed")
+}
+
+/// The number that was found for COUNT.
+pub(crate) fn count_in(own: &ArgMatches<'_>) -> Option<u64>
+    ensures { result ≡ spec.count_in (rows_of (found_of own.now)) }
+{
+    number_in(own, "count")
+}
+
 /// The word found for an argument of this name.
 fn word_in<'a>(own: &ArgMatches<'a>, name: &str) -> Option<&'a str>
     ensures { option_map (λ word. word.now) result ≡ first_of name.now (rows_of (found_of own.now)) }

@@ -46,6 +46,12 @@ pub enum SourceTask {
         out: Text,
         exclude: Items<Text>,
     },
+    /// No file is read: one that is made of a number, with so many functions, stands in its place.
+    /// It is run, and its coverage is summed up.
+    Demo {
+        seed: u64,
+        count: u64,
+    },
 }
 
 /// What is done with coverage files, once they are merged.

@@ -34,6 +34,15 @@ pub(crate) fn run<'a>(alloc: Global) -> Result<Command<'a>, Memory>
         .arg(file(alloc))
 }
 
+/// The form of `demo`.
+pub(crate) fn demo<'a>(alloc: Global) -> Result<Command<'a>, Memory>
+    ensures { IfOk result (λ form. (app_of form ≡ spec.demo_form) × ((fields_of form).has_globals ≡ false)) }
+{
+    Command::new(alloc, "demo")
+        .arg(seed(alloc))?
+        .arg(count(alloc))
+}
+
 /// The form of `instrument`.
 pub(crate) fn instrument<'a>(alloc: Global) -> Result<Command<'a>, Memory>
     ensures { IfOk result (λ form. (app_of form ≡ spec.instrument_form) × ((fields_of form).has_globals ≡ false)) }
@@ -143,6 +152,24 @@ fn exclude<'a>(alloc: Global) -> Arg<'a>
     ensures { (rule_of result ≡ spec.exclude_rule) × (result.global ≡ false) }
 {
     Arg::new(alloc, "exclude").long("exclude")
+}
+
+/// The argument SEED: a number of 64 bits.
+fn seed<'a>(alloc: Global) -> Arg<'a>
+    ensures { (rule_of result ≡ spec.seed_rule) × (result.global ≡ false) }
+{
+    Arg::new(alloc, "seed")
+        .required(true)
+        .value_parser(clap::value_parser!(u64))
+}
+
+/// The argument COUNT: a number up to 10,000.
+fn count<'a>(alloc: Global) -> Arg<'a>
+    ensures { (rule_of result ≡ spec.count_rule) × (result.global ≡ false) }
+{
+    Arg::new(alloc, "count")
+        .required(true)
+        .value_parser(clap::value_parser!(u64).range(..=10_000))
 }
 
 /// The option `--reporter R`, by default `text`.

@@ -1,4 +1,4 @@
-ghost use Rattle.cov_words.specs.WorkedWords.{HelpAlone, Maps, Exec, Instruments, Runs, Merges, Reports, Checks, V8s, NoReading};
+ghost use Rattle.cov_words.specs.WorkedWords.{HelpAlone, Maps, Exec, Instruments, Runs, Demos, Merges, Reports, Checks, V8s, NoReading};
 
 /// What words ask for by the definition, worked out: it computes.
 pub fn worked_words()
@@ -7,6 +7,7 @@ pub fn worked_words()
     ensures exec { Exec }
     ensures instruments { Instruments }
     ensures runs { Runs }
+    ensures demos { Demos }
     ensures merges { Merges }
     ensures reports { Reports }
     ensures checks { Checks }

@@ -4,14 +4,14 @@ ghost use Rattle.clap.specs.declared.builder.command.Command.TheViews.{out-Comma
 ghost use Rattle.cov_words.specs.Words as spec;
 
 use crate::arguments::{
-    exclude_in, file_in, files_in, out_in, reporter_in, thresholds_in, turns_in,
+    count_in, exclude_in, file_in, files_in, out_in, reporter_in, seed_in, thresholds_in, turns_in,
 };
-use crate::forms::{check, exec, instrument, maps, merge, report, run, v8};
+use crate::forms::{check, demo, exec, instrument, maps, merge, report, run, v8};
 use crate::sources::sources_in;
 use crate::{Command, CoverageTask, SourceTask};
 use clap::ArgMatches;
 use clap::error::ErrorKind;
-use items::Memory;
+use items::{Memory, Text};
 use std::alloc::{AllocError, Global};
 
 /// The command that the words after the program's name give, `None` where they have no reading.
@@ -63,7 +63,9 @@ fn matches_of<'a>(alloc: Global, words: &'a [String]) -> Result<Option<ArgMatche
 fn cov<'a>(alloc: Global) -> Result<clap::Command<'a>, Memory>
     ensures { IfOk result (λ form. app_of form ≡ spec.cov_form) }
 {
-    with_coverage_forms(alloc, source_forms(alloc)?)?.subcommand(v8(alloc)?)
+    with_coverage_forms(alloc, source_forms(alloc)?)?
+        .subcommand(demo(alloc)?)?
+        .subcommand(v8(alloc)?)
 }
 
 /// The form of all words, with the commands on sources.
@@ -123,6 +125,7 @@ fn request_in(alloc: Global, matches: &ArgMatches<'_>) -> Result<Option<Command>
         "exec" => on_source(alloc, exec_in(own), own),
         "instrument" => instrument_in(alloc, own),
         "run" => on_source(alloc, run_in(alloc, own)?, own),
+        "demo" => demo_in(alloc, own),
         "v8" => on_v8(alloc, own),
         _ => on_coverage(alloc, coverage_task(alloc, name, own)?, own),
     }
@@ -213,6 +216,19 @@ fn run_in(alloc: Global, own: &ArgMatches<'_>) -> Result<Option<SourceTask>, Mem
         turns,
         out,
         exclude,
+    }))
+}
+
+/// `demo` of the numbers that were found.
+fn demo_in(alloc: Global, own: &ArgMatches<'_>) -> Result<Option<Command>, Memory>
+    ensures { IfOk result (λ found. found ≡ spec.demo_in (rows_of (found_of own.now))) }
+{
+    let (Some(seed), Some(count)) = (seed_in(own), count_in(own)) else {
+        return Ok(None);
+    };
+    Ok(Some(Command::OnSource {
+        task: SourceTask::Demo { seed, count },
+        file: Text::from_str(alloc, "demo.js")?,
     }))
 }
 

@@ -22,6 +22,10 @@ pub returns-clause-runs : goal.returns-clause-runs
 unfolding clap_on_literals
 returns-clause-runs c = refl
 
+pub returns-clause-demos : goal.returns-clause-demos
+unfolding clap_on_literals
+returns-clause-demos c = refl
+
 pub returns-clause-merges : goal.returns-clause-merges
 unfolding clap_on_literals
 returns-clause-merges c = refl

@@ -1,5 +1,0 @@
-var i = 0;
-while (true) {
-    print(i);
-    i = i + 1;
-}
