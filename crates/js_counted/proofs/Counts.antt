@@ -121,9 +121,9 @@ module _ (files : ℕ → FileCounters) (p : Sources) (pre : Prepared files p) w
       inner = gives.around;
       kind = gives.kind;
       number = gives.number;
-      a = None;
-      b = None;
-      c = None;
+      a = gives.x;
+      b = gives.y;
+      c = gives.z;
       is_code = gives.is_code;
       low = gives.around_low;
       place = gives.place;
@@ -243,9 +243,13 @@ module _ (files : ℕ → FileCounters) (p : Sources) (pre : Prepared files p) w
           bound = g.bound;
           low = object_low g.function g.low;
           unpaired = g.unpaired;
+          apart = g.apart;
           code = g.code;
           around = g.around;
           number = g.number;
+          x = g.x;
+          y = g.y;
+          z = g.z;
           is_code = g.is_code;
           kind = ap (λ (y : ObjectRecord). y.kind) (object_same g.function apart) ∙ g.kind;
           around_low = let low = g.around_low in omega (arith, low, one_more);

@@ -1,5 +1,5 @@
 -- The data of files under their paths, and ways in them.
-use Rattle.std.proofs.Common.{◌≡◌, ◌≢◌, ℕ, zero, suc, ◌+◌, Bool, true, false, ◌||◌, List, [], ◌∷◌, ◌++◌, Option, Some, None, refl, sym, ap, ◌∙◌, subst, ⊎_elim, arith, if◌then◌else◌}
+use Rattle.std.proofs.Common.{◌≡◌, ◌≢◌, ℕ, zero, suc, Bool, true, false, ◌||◌, List, [], ◌∷◌, ◌++◌, Option, Some, None, refl, sym, ap, ◌∙◌, subst, ⊎_elim, arith, if◌then◌else◌}
 use Rattle.std.specs.Prelude.{option_map, option_and_then, nat_eq}
 use Rattle.std.specs.Str.{bytes_eq}
 use Rattle.std.proofs.lemmas.Bool.{cases_eq}
@@ -139,10 +139,10 @@ entered_more started (m ∷ log) mark all a = (all.0, entered_more started log m
 
 -- Files started
 
-either : (m n : ℕ) (b : Bool) → (nat_eq m n || b) ≡ true → m ≢ n → b ≡ true
+pub either : (m n : ℕ) (b : Bool) → (nat_eq m n || b) ≡ true → m ≢ n → b ≡ true
 either m n b e ne = ap (λ t. t || b) (sym (other_file m n ne)) ∙ e
 
-neither : (m n : ℕ) (b : Bool) → (nat_eq m n || b) ≡ false → (m ≢ n) × (b ≡ false)
+pub neither : (m n : ℕ) (b : Bool) → (nat_eq m n || b) ≡ false → (m ≢ n) × (b ≡ false)
 neither m n b e = (λ z. absurd (clash (ap (λ t. t || b) (sym (same_file m n z)) ∙ e)), by (nat_eq m n) e)
   where
     clash : true ≡ false → ⊥

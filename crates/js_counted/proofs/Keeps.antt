@@ -23,10 +23,11 @@ use Rattle.js_counter.proofs.Data.{on_both, both_members}
 use Rattle.js_counted.specs.Files.{FileCounters, expected}
 use Rattle.js_counted.specs.Holds.{global, coverage_text, Tells, IsData, Covering, uncovered, covered, GivesData, Holds}
 use Rattle.js_counted.specs.Program.{is_counted, counted_program, counters}
+use Rattle.js_counted.proofs.Alone.{Lasts, lasts_by}
 
 -- Where a program begins
 
-root_plain : (object_at opening root).kind ≡ Plain
+pub root_plain : (object_at opening root).kind ≡ Plain
 unfolding realm.opening realm.each realm.freeze_all realm.rows realm.named_errors realm.named_objects
 root_plain = refl
 
@@ -81,7 +82,7 @@ same_again : {x y z : ObjectRecord} → SameProperties x y → SameProperties y 
 same_again a b = record { kind = b.kind ∙ a.kind; prototype = b.prototype ∙ a.prototype; frozen = b.frozen ∙ a.frozen; properties = b.properties ∙ a.properties }
 
 module _ (files : ℕ → FileCounters) (q : Sources) where
-  pub covering_later : {w v : World} {h k : Heap} (ms : PlacedMembers) (started : List ℕ) → Untouched w v h k → global < length h.objects → ((n : ℕ) → Paired w.objects n global → ⊥) → Covering w h ms started → Covering v k ms started
+  pub covering_later : {w v : World} {h k : Heap} (ms : PlacedMembers) (started : List ℕ) → Lasts w v h k → global < length h.objects → ((n : ℕ) → Paired w.objects n global → ⊥) → Covering w h ms started → Covering v k ms started
   covering_later ms started u low apart (uncovered e s z) = uncovered e s ((u.objects global low apart).2 ∙ z)
   covering_later {w} {v} {h} {k} ms started u low apart (covered c some x d ds) =
       let o = u.objects global low apart in
@@ -98,7 +99,7 @@ module _ (files : ℕ → FileCounters) (q : Sources) where
       (record { unpaired = (u.objects c x.holds.0.0 d.unpaired).0; apart = d.apart })
       (both_members (Stands h) (λ q r. IsData w q) (λ q r. IsData v q) (λ q r s z. record { unpaired = (u.objects q s.0 z.unpaired).0; apart = z.apart }) ms x.holds.1 ds)
 
-  pub gives_later : {w v : World} {h k : Heap} {ms : PlacedMembers} {started : List ℕ} {file : ℕ} {b : Binding} → Untouched w v h k → GivesData files q w started h ms file b → GivesData files q v started k ms file b
+  pub gives_later : {w v : World} {h k : Heap} {ms : PlacedMembers} {started : List ℕ} {file : ℕ} {b : Binding} → Lasts w v h k → GivesData files q w started h ms file b → GivesData files q v started k ms file b
   gives_later u x =
       let o = u.objects x.function x.low x.unpaired in
       let a = u.environments x.around x.around_low x.around_unpaired in
@@ -107,9 +108,13 @@ module _ (files : ℕ → FileCounters) (q : Sources) where
         bound = x.bound;
         low = o.1;
         unpaired = o.0;
+        apart = x.apart;
         code = x.code;
         around = x.around;
         number = x.number;
+        x = x.x;
+        y = x.y;
+        z = x.z;
         is_code = x.is_code;
         kind = ap (λ (r : ObjectRecord). r.kind) o.2 ∙ x.kind;
         around_low = a.1;
@@ -131,12 +136,12 @@ module _ (files : ℕ → FileCounters) (q : Sources) where
         let n = z.1 x.place x.named in
         record {
           members = x.members;
-          covering = covering_later x.members started u x.global_low x.global_unpaired x.covering;
+          covering = covering_later x.members started (lasts_by u) x.global_low x.global_unpaired x.covering;
           told = x.told;
           gives = λ e f n file i hm ow.
               let j = u.inner e f n i ow in
               subst (λ b. GivesData files q v started k x.members file b) (sym (u.own e f n j (sym (g.own e f j) ∙ ow)))
-              (gives_later u (x.gives e f n file j (sym (g.home e f j) ∙ hm) (sym (g.own e f j) ∙ ow)));
+              (gives_later (lasts_by u) (x.gives e f n file j (sym (g.home e f j) ∙ hm) (sym (g.own e f j) ∙ ow)));
           each_once = x.each_once;
           countable = x.countable;
           entered = x.entered;
@@ -151,7 +156,7 @@ module _ (files : ℕ → FileCounters) (q : Sources) where
           is_global = ap (λ (b : Binding). b.value) n.1 ∙ x.is_global;
         }
 
-    tells_by : (w : World) (log : List Mark) (started : List ℕ) (k : Heap) (ms : PlacedMembers) → json_members ms ≡ expected files started log → Covering w k ms started → Tells files log started k
+    pub tells_by : (w : World) (log : List Mark) (started : List ℕ) (k : Heap) (ms : PlacedMembers) → json_members ms ≡ expected files started log → Covering w k ms started → Tells files log started k
     tells_by w log [] k ms told (uncovered e s z) = ap (λ r. own_of r coverage_text.units) z ∙ no_coverage coverage_text.units
     tells_by w log [] k ms told (covered c some x d ds) = absurd (omega (arith, some))
     tells_by w log (file ∷ started) k ms told (uncovered e s z) = absurd (let y = s in cc)
@@ -184,5 +189,9 @@ module _ (files : ℕ → FileCounters) (q : Sources) where
 pub counters_keep : (files : ℕ → FileCounters) (p : Sources) → Keeps (counters files p)
 counters_keep files p = record {
   keeps = λ w v log started h k g u x. keeps files (counted_program files p) (is_counted p) w v log started h k g u x;
-  tells = λ w log started k x. tells_by files (counted_program files p) (is_counted p) w log started k x.members x.told x.covering;
+  tells = λ w log started k x. record {
+    each_once = x.each_once;
+    countable = x.countable;
+    tells = tells_by files (counted_program files p) (is_counted p) w log started k x.members x.told x.covering;
+  };
 }

@@ -1,9 +1,17 @@
 pub mod Alone
 pub mod Beginning
+pub mod Called
 pub mod Counts
 pub mod Data
+pub mod FileStarts
+pub mod Growing
+pub mod Grows
 pub mod Keeps
+pub mod Named
 pub mod Numbers
 pub mod Own
+pub mod OwnEnvironments
 pub mod Preamble
+pub mod Runs
+pub mod Started
 pub mod Together

@@ -51,7 +51,7 @@ child_ticked (Items xs) key keys = by (index_of key) refl
 
 -- and nothing else changes
 
-abbrev KeysApart : List ℕ → List ℕ → Type 0
+abbrev pub KeysApart : List ℕ → List ℕ → Type 0
 KeysApart k l = (bytes_eq k l ≡ false) × ((i j : ℕ) → index_of k ≡ Some i → index_of l ≡ Some j → i ≢ j)
 
 abbrev WaysApart : List (List ℕ) → List (List ℕ) → Type 0
@@ -76,7 +76,7 @@ member_other (members q x ms) key other keys ne = by (bytes_eq q key) refl (memb
         ap (λ b. if b then Some (json_ticked x keys) else json_member ms other) not ∙ sym (ap (λ b. if b then Some x else json_member ms other) not)
     by false e rest = ap (λ r. if bytes_eq q other then Some x else r) rest
 
-child_other : (x : Json) (key other : List ℕ) (keys : List (List ℕ)) → KeysApart key other → json_child other (json_ticked x (key ∷ keys)) ≡ json_child other x
+pub child_other : (x : Json) (key other : List ℕ) (keys : List (List ℕ)) → KeysApart key other → json_child other (json_ticked x (key ∷ keys)) ≡ json_child other x
 child_other Null key other keys a = refl
 child_other (Truth b) key other keys a = refl
 child_other (Negative n) key other keys a = refl
@@ -153,7 +153,7 @@ one_ascii c low (suc i) = omega arith
 units_of : (c : ℕ) → c < 128 → name_units (c ∷ []) ≡ flat_map encode_utf16 (c ∷ [])
 units_of c low = ap (flat_map encode_utf16) (chars-IsAscii (c ∷ []) (one_ascii c low))
 
-abbrev letter : ConstructKind → List ℕ
+abbrev pub letter : ConstructKind → List ℕ
 letter construct_kind.Statement = codes "s"
 letter construct_kind.Function = codes "f"
 letter construct_kind.Branch = codes "b"

@@ -1,5 +1,5 @@
--- The counters of a program's files, together, and the law of its two runs.
-use Rattle.std.proofs.Common.{◌≡◌, ℕ, suc, true, false, List, [], ◌∷◌, ◌++◌, None, codes, refl, sym, ap, ap₂, ◌∙◌, subst}
+-- The counters of a program's files, together: whose functions stand for whose, and that `this` is none of them.
+use Rattle.std.proofs.Common.{◌≡◌, ℕ, suc, true, false, List, [], ◌∷◌, ◌++◌, None, codes, refl, ap, ap₂, ◌∙◌}
 use Rattle.js_tree.specs.Mark.{Mark}
 use Rattle.js_tree.specs.declared.construct.ConstructKind.{ConstructKind}
 use Rattle.js_tree.specs.declared.construct.ConstructKind.TheVariants as construct_kind
@@ -9,23 +9,17 @@ use Rattle.js_tree.specs.Codes.{functions_expr}
 use Rattle.js_text.specs.Word.{reserved_word}
 use Rattle.js_reading.specs.Kinds.{is_keyword}
 use Rattle.js_meaning.specs.Program.{Source, Sources, linked}
-use Rattle.js_meaning.specs.World.{run}
 use Rattle.cov_rewritten.specs.Counters.{name, counted_in}
 use Rattle.js_suits.specs.Settings.{Setting, Fresh}
 use Rattle.js_suits.specs.Programs.{instrumented_file, instrumented_sources, instrumented_prelude, instrumented, Suits, Silent}
 use Rattle.js_suits.proofs.This.{names_free}
 use Rattle.js_suits.proofs.Silent.{silent_lengths}
 use Rattle.js_suits.proofs.Standing.{stand_back}
-use Rattle.js_lockstep.specs.Counters.{Coded, Counts}
-use Rattle.js_lockstep.specs.Programs.{Starts, Counter, SameRuns}
+use Rattle.js_lockstep.specs.Counters.{Coded}
 use Rattle.js_lockstep.proofs.Coded.{codes_stand}
 use Rattle.js_lockstep.proofs.Opened.{opens_in_order}
-use Rattle.js_lockstep.proofs.Theorem.{runs_in_step}
 use Rattle.js_counted.specs.Files.{FileCounters}
-use Rattle.js_counted.specs.Program.{preamble_of, preamble_codes, is_counted, counter_code, counted_program, counters, Prepared}
-use Rattle.js_counted.specs.Parts.{CountersRun}
-use Rattle.js_counted.proofs.Keeps.{counters_keep, first_holds}
-use Rattle.js_counted.proofs.Counts.{counters_count}
+use Rattle.js_counted.specs.Program.{preamble_of, preamble_codes, counter_code, counted_program, counters, Prepared}
 
 no_keyword : (more : List ℕ) → is_keyword (codes "cov_" ++ more) ≡ false
 unfolding is_keyword reserved_word
@@ -68,18 +62,3 @@ module _ (files : ℕ → FileCounters) (p : Sources) where
 
   pub fresh : Prepared files p → Fresh (counters files p)
   fresh pre = names_free (counters files p) (λ file. ap is_keyword (pre.named file).1 ∙ no_keyword (pre.named file).0)
-
-  pub counter_of : Prepared files p → Suits (counters files p) (linked p) → Starts (counters files p) (linked p) (counted_program files p) → Counter (counters files p) (linked p)
-  counter_of pre su starts = record {
-    keeps = counters_keep files p;
-    fresh = fresh pre;
-    coded = coded su;
-    counts = subst (λ q. Counts (counters files p) q) (sym same_program) (counters_count files p pre);
-    starts = subst (λ q. Starts (counters files p) (linked p) q) (sym same_program) starts;
-    first = first_holds files (counted_program files p) (is_counted p);
-  }
-
-pub counters_run : CountersRun
-counters_run files p pre su starts file n room =
-    subst (λ q. SameRuns (counters files p) (run (linked p) file n) (run q file n)) (same_program files p)
-    (runs_in_step (counters files p) (linked p) su (counter_of files p pre su starts) file n room)

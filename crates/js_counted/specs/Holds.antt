@@ -1,7 +1,8 @@
 -- What the run of a program with its counters holds beside what stands for something in the source's run: under the global object the
 -- coverage of the files started, and in each one's own environment the function that gives its data.
-use Rattle.std.specs.Prelude.{◌≡◌, ◌≢◌, ℕ, ◌<◌, Bool, true, false, List, [], ◌∷◌, length, codes, Some, None, slice_index_or}
+use Rattle.std.specs.Prelude.{◌≡◌, ◌≢◌, ℕ, ◌<◌, Bool, true, false, List, [], ◌∷◌, length, codes, Option, Some, None, slice_index_or}
 use Rattle.js_tree.specs.Mark.{Mark}
+use Rattle.js_tree.specs.declared.place.Loc.{Loc}
 use Rattle.js_tree.specs.declared.words.Spelled.{Spelled}
 use Rattle.js_value.specs.declared.built_in.Place.TheVariants.{Global}
 use Rattle.js_value.specs.State.{Property, Written, Binding, Heap}
@@ -51,17 +52,22 @@ pub data Covering (w : World) (k : Heap) (ms : PlacedMembers) (started : List �
   uncovered : ms ≡ empty → started ≡ [] → object_at k global ≡ object_at opening global → Covering w k ms started
   covered : (c : ℕ) → 0 < length started → Covered k global coverage_text.units c ms → IsData w c → OnMembers (λ o r. IsData w o) ms → Covering w k ms started
 
--- a name's binding holds the function that gives the data of a file that has started, in place of the file's first function
+-- a name's binding holds the function that gives the data of a file that has started, in place of the file's first function; its parts
+-- stand at x, y and z in the text
 pub record GivesData (files : ℕ → FileCounters) (q : Sources) (w : World) (started : List ℕ) (k : Heap) (ms : PlacedMembers) (file : ℕ) (b : Binding) : Type 0 where
   pub function : ℕ
   pub bound : b.value ≡ Some (object function)
   pub low : function < length k.objects
   pub unpaired : (n : ℕ) → Paired w.objects n function → ⊥
+  pub apart : function ≢ global
   pub code : ℕ
   pub around : ℕ
   pub kind : kind_of k function ≡ Written code around
   pub number : ℕ
-  pub is_code : function_at q code ≡ Some (gives_actual number None None None)
+  pub x : Option Loc
+  pub y : Option Loc
+  pub z : Option Loc
+  pub is_code : function_at q code ≡ Some (gives_actual number x y z)
   pub around_low : around < next_environment k
   pub around_unpaired : (e : ℕ) → Paired w.environments e around → ⊥
   pub place : ℕ
@@ -80,6 +86,12 @@ EachOnce counted (file ∷ started) = (counted file ≡ true) × (stands_in file
 abbrev pub AllStarted : List ℕ → List Mark → Type 0
 AllStarted started [] = Unit {0}
 AllStarted started (mark ∷ log) = (stands_in mark.file started ≡ true) × AllStarted started log
+
+-- what is told: the files started are counted, each once; marks are as files have them; and the coverage is that of these files
+pub record Told (files : ℕ → FileCounters) (counted : ℕ → Bool) (log : List Mark) (started : List ℕ) (k : Heap) : Type 0 where
+  pub each_once : EachOnce counted started
+  pub countable : AllCountable log
+  pub tells : Tells files log started k
 
 pub record Holds (files : ℕ → FileCounters) (counted : ℕ → Bool) (q : Sources) (w : World) (log : List Mark) (started : List ℕ) (k : Heap) : Type 0 where
   pub members : PlacedMembers

@@ -30,12 +30,6 @@ CountersBegin = (files : ℕ → FileCounters) (p : Sources) → Holds files (is
 abbrev pub CountersCount : Type 0
 CountersCount = (files : ℕ → FileCounters) (p : Sources) → Prepared files p → Counts (counters files p) (counted_program files p)
 
--- so where each file starts as it is asked, for each file of the program and each number of steps up to 2^53 - 1: the same end, the same
--- output, and coverage that has the files started, each under its path, with the number of entries at the place of each mark
-abbrev pub CountersRun : Type 0
-CountersRun = (files : ℕ → FileCounters) (p : Sources) → Prepared files p → Suits (counters files p) (linked p) → Starts (counters files p) (linked p) (counted_program files p) →
-    (file n : ℕ) → n ≤ 2 ^ 53 - 1 → SameRuns (counters files p) (run (linked p) file n) (run (counted_program files p) file n)
-
 -- where a counted file starts in both, the instrumented one begins with its directives, its function and a call of it, and its function's
 -- name is none of its own
 abbrev pub Begins : (ℕ → FileCounters) → Sources → ℕ → Source → List Comment → Store → List (Option Loc × Spelled) → Stmts → Type 0
@@ -49,3 +43,13 @@ abbrev pub FilesBegin : Type 0
 FilesBegin = (files : ℕ → FileCounters) (p : Sources) → Prepared files p → Suits (counters files p) (linked p) → (file : ℕ) (source : Source) → slice_get (linked p).files file ≡ Some source → source.counted ≡ true →
     (xs : Stmts) (comments : List Comment) → source.tree ≡ MakeFile xs comments → (w : World) (s t : Store) → AlikeStores (counters files p) w s t →
     (ds : List (Option Loc × Spelled)) × (rest : Stmts) × Begins files p file source comments t ds rest
+
+-- it starts in a step in both, and then both are at the file's own statements, its coverage there
+abbrev pub FilesStart : Type 0
+FilesStart = (files : ℕ → FileCounters) (p : Sources) → Prepared files p → Suits (counters files p) (linked p) → Starts (counters files p) (linked p) (counted_program files p)
+
+-- so for each file of the program and each number of steps up to 2^53 - 1: the same end, the same output, and coverage that has the files
+-- started, each under its path, with the number of entries at the place of each mark
+abbrev pub CountersRun : Type 0
+CountersRun = (files : ℕ → FileCounters) (p : Sources) → Prepared files p → Suits (counters files p) (linked p) →
+    (file n : ℕ) → n ≤ 2 ^ 53 - 1 → SameRuns (counters files p) (run (linked p) file n) (run (counted_program files p) file n)

@@ -19,7 +19,7 @@ use Rattle.js_counter.specs.First.{hash_, Bare}
 use Rattle.js_counter.specs.Starts.{opening_of}
 use Rattle.js_counted.specs.Files.{FileCounters, way}
 use Rattle.js_counted.specs.Numbers.{json_child, number_in, IsCountable}
-use Rattle.js_counted.specs.Holds.{coverage_text, Tells, Holds}
+use Rattle.js_counted.specs.Holds.{coverage_text, Told, Holds}
 
 -- what stands before a file's statements: its function, and a call of it
 abbrev pub preamble_of : FileCounters → Stmts
@@ -51,7 +51,7 @@ counted_program files p = instrumented (counter_code files p) (linked p)
 
 -- the same code, with what is held for it
 abbrev pub counters : (ℕ → FileCounters) → Sources → Setting
-counters files p = record (counter_code files p) { Hidden = Holds files (is_counted p) (counted_program files p); Counted = Tells files }
+counters files p = record (counter_code files p) { Hidden = Holds files (is_counted p) (counted_program files p); Counted = Told files (is_counted p) }
 
 -- what is asked of them: names begin with `cov_`; no two files counted have one path, and none has one that all objects have as a
 -- property; a file's data have its hash, each key once, and a zero for each of its marks; and its function has its number

@@ -1,5 +1,5 @@
 -- The start of a file that has counters, whole.
-use Rattle.std.proofs.Common.{Option, ◌≡◌, ℕ, suc, List, Some, sym, ap, ◌∙◌, arith}
+use Rattle.std.proofs.Common.{Option, ◌≡◌, ℕ, suc, List, Some, sym, ap, ◌∙◌}
 use Rattle.js_tree.specs.declared.words.Comment.{Comment}
 use Rattle.js_tree.specs.declared.place.Loc.{Loc}
 use Rattle.js_tree.specs.declared.words.Spelled.{Spelled}
@@ -20,7 +20,6 @@ use Rattle.js_meaning.specs.Points.{TakesOne}
 use Rattle.js_counter.specs.Steady.{call_of}
 use Rattle.js_counter.specs.Preamble.{Uncovered}
 use Rattle.js_counter.specs.Starts.{opening_of, file_env, file_store, Started, StartsFirst, StartsOther, StartsAgain}
-use Rattle.js_counter.proofs.Closed.{grown_length}
 use Rattle.js_counter.proofs.Puts.{bare_grown, covered_grown}
 use Rattle.js_counter.proofs.Opens.{opens_first, opens_other, opens_again}
 use Rattle.js_counter.proofs.Starts.{starts_file}
@@ -55,8 +54,7 @@ starts_first p source file ds name path hash gcv made number next rest comments 
     let t = file_store source file (opening_of ds name path hash gcv made number next rest) s in
     let o = opens_first p t (file_env (begin source file s)) name path hash gcv made g x.0 (uncovered_grown s.heap t.heap g gcv.units x.1 u)
     (bare_grown s.heap t.heap (Some (number_of ObjectPrototype)) path.units x.1 bare) other in
-    let longer = grown_length s.heap t.heap x.1 in let far = o.1 in
-    (o.0, omega (arith, longer, far), record { opened = o.2; started = started_by p source file ds name path hash gcv made number next rest comments s o.2.store _ tree o.2.takes })
+    (o.0, o.1, record { opened = o.2; started = started_by p source file ds name path hash gcv made number next rest comments s o.2.store _ tree o.2.takes })
 
 pub starts_other : StartsOther
 starts_other p source file ds name path hash gcv made number next rest comments s g c ms tree f covered bare none =

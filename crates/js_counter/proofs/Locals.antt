@@ -1,5 +1,5 @@
 -- The names of a call that runs.
-use Rattle.std.proofs.Common.{◌≡◌, ℕ, suc, ◌+◌, List, [], ◌∷◌, ◌++◌, Some, None, refl, ap, ◌∙◌}
+use Rattle.std.proofs.Common.{◌≡◌, ℕ, suc, List, [], ◌∷◌, ◌++◌, Some, None, refl, ap, ◌∙◌}
 use Rattle.std.specs.Prelude.{slice_index_or, slice_set, option_map}
 use Rattle.std.proofs.Math.Seq.{set-append_seam}
 use Rattle.js_tree.specs.declared.words.Spelled.{Spelled}

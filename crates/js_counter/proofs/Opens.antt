@@ -11,7 +11,7 @@ use Rattle.js_value.specs.declared.value.Value.TheVariants as value
 use Rattle.js_value.specs.declared.value.Primitive.TheVariants as primitive
 use Rattle.js_value.specs.declared.built_in.Place.TheVariants.{ObjectPrototype}
 use Rattle.js_value.specs.State.{Property, ObjectRecord, Binding, Environment, Heap, Store}
-use Rattle.js_value.specs.Objects.{object_at, no_object, next_object, own, own_of, assigned, get, with_value_of}
+use Rattle.js_value.specs.Objects.{object_at, no_object, next_object, own_of, assigned, get, with_value_of}
 use Rattle.js_value.specs.Environments.{Done, next_environment, no_binding, environment_at, place_of, binding_at, value_of, assign_answer, assign_to, assign}
 use Rattle.js_value.specs.OnObjects.{or_undefined}
 use Rattle.js_value.specs.Functions.{name_units}

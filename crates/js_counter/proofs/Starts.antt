@@ -7,12 +7,12 @@ use Rattle.js_value.specs.declared.value.Value.{Value}
 use Rattle.js_value.specs.State.{Store}
 use Rattle.js_value.specs.Objects.{next_object}
 use Rattle.js_meaning.specs.declared.outcome.Completion.{Completion}
-use Rattle.js_meaning.specs.Effects.{Comp, handle}
-use Rattle.js_meaning.specs.Steps.{Stopped, eval}
+use Rattle.js_meaning.specs.Effects.{Comp, handle, exec}
+use Rattle.js_meaning.specs.Steps.{Stopped, eval, ran_by}
 use Rattle.js_meaning.specs.Program.{Sources}
 use Rattle.js_meaning.specs.Meaning.{with_value, done, comp_expr, comp_stmts}
 use Rattle.js_meaning.specs.Files.{inside, begin, comp_file, after_call, run_source}
-use Rattle.js_meaning.proofs.Handle.{handle_again}
+use Rattle.js_meaning.proofs.Handle.{handle_again, exec_eval}
 use Rattle.js_meaning.specs.Points.{point, TakesOne, from_point}
 use Rattle.js_counter.specs.Literals.{expr_of}
 use Rattle.js_counter.specs.Steady.{call_of}
@@ -31,6 +31,25 @@ module _ (p : Sources) (env : ℕ) (j k : Completion → Comp) where
   directives_done [] x xs s = refl
   directives_done (d ∷ []) x xs s = refl
   directives_done (d ∷ f ∷ ds) x xs s = directives_done (f ∷ ds) x xs s
+
+  directives_alone : (ds : List (Option Loc × Spelled)) (s : Store) →
+      point (handle (handle (comp_stmts p (after_directives ds no_stmt) env) j) k) s ≡ point (handle (handle (comp_stmts p no_stmt env) j) k) s
+  directives_alone [] s = refl
+  directives_alone (d ∷ []) s = refl
+  directives_alone (d ∷ f ∷ ds) s = directives_alone (f ∷ ds) s
+
+  -- so directives make no difference to a run
+  directives_pass : (ds : List (Option Loc × Spelled)) (xs : Stmts) (s : Store) →
+      point (handle (handle (comp_stmts p (after_directives ds xs) env) j) k) s ≡ point (handle (handle (comp_stmts p xs env) j) k) s
+  directives_pass ds no_stmt s = directives_alone ds s
+  directives_pass ds (more_stmt x xs) s = directives_done ds x xs s
+
+  pub directives_run : (ds : List (Option Loc × Spelled)) (xs : Stmts) (n : ℕ) (s : Store) →
+      exec (inside p) n (handle (handle (comp_stmts p (after_directives ds xs) env) j) k) s ≡ exec (inside p) n (handle (handle (comp_stmts p xs env) j) k) s
+  directives_run ds xs n s =
+      exec_eval (inside p) n (handle (handle (comp_stmts p (after_directives ds xs) env) j) k) s
+      ∙ ap ran_by (same_run p (handle (handle (comp_stmts p (after_directives ds xs) env) j) k) (handle (handle (comp_stmts p xs env) j) k) s s n (directives_pass ds xs s))
+      ∙ sym (exec_eval (inside p) n (handle (handle (comp_stmts p xs env) j) k) s)
 
   -- the call, and then the file's own statements
   abbrev own_rest : Stmts → Completion → Comp

@@ -1,5 +1,5 @@
 -- The first call of a file's function.
-use Rattle.std.specs.Prelude.{◌≡◌, ℕ, ◌+◌, ◌<◌, false, List, [], ◌∷◌, ◌++◌, length, codes, Option, Some, None}
+use Rattle.std.specs.Prelude.{◌≡◌, ℕ, ◌<◌, false, List, [], ◌∷◌, ◌++◌, length, codes, Option, Some, None}
 use Rattle.std.specs.Str.{bytes_eq}
 use Rattle.js_tree.specs.declared.operators.AssignmentOperator.TheVariants as assign
 use Rattle.js_tree.specs.declared.operators.BinaryOperator.TheVariants as binary

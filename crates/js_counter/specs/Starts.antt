@@ -104,13 +104,14 @@ pub record StartsWith (p : Sources) (source : Source) (file : ℕ) (xs rest : St
   pub opened : Opened p (file_store source file xs s) (file_env (begin source file s)) name path gcv g c ms json
   pub started : Started p source file xs rest s opened.store
 
--- the first file of a program that has counters
+-- the first file of a program that has counters: the coverage is made in its call
 abbrev pub StartsFirst : Type 0
 StartsFirst = (p : Sources) (source : Source) (file : ℕ) (ds : List (Option Loc × Spelled)) (name : List ℕ) (path hash gcv : Spelled) (made : Literal) (number next : ℕ) (rest : Stmts) (comments : List Comment) (s : Store) (g : ℕ) →
     source.tree ≡ MakeFile (opening_of ds name path hash gcv made number next rest) comments →
     FileFresh p (opening_of ds name path hash gcv made number next rest) name path hash gcv made number next rest s g →
     Uncovered s.heap g gcv.units → NotInherited s.heap path.units → number_of ObjectPrototype ≢ g →
-    (c : ℕ) × (length s.heap.objects ≤ c) × StartsWith p source file (opening_of ds name path hash gcv made number next rest) rest s name path gcv.units g c empty (data_of made)
+    (c : ℕ) × (length (file_store source file (opening_of ds name path hash gcv made number next rest) s).heap.objects ≤ c)
+    × StartsWith p source file (opening_of ds name path hash gcv made number next rest) rest s name path gcv.units g c empty (data_of made)
 
 -- another file of it
 abbrev pub StartsOther : Type 0

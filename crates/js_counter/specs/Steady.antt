@@ -18,7 +18,7 @@ use Rattle.js_meaning.specs.Scopes.{scope_made}
 use Rattle.js_meaning.specs.Meaning.{comp_expr}
 use Rattle.js_meaning.specs.Points.{TakesOne}
 use Rattle.js_meaning.specs.Files.{this_bound}
-use Rattle.js_counter.specs.Represents.{Placed, number, Holds, Distinct, Within, address, value_at, ticked}
+use Rattle.js_counter.specs.Represents.{Placed, Holds, Distinct, Within, address, value_at, ticked}
 
 abbrev pub actual : List ℕ
 actual = codes "actual"

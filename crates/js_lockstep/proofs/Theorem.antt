@@ -76,11 +76,11 @@ module _ (c : Setting) (k : Keeps c) (fresh : Fresh c) (p q : Sources) (counting
   -- Files
 
   -- the objects of a file
-  record FileMade (w : World) (a b d e : Heap) : Type 0 where
-    grown : Grown c w a b d e
-    exports : Paired grown.v.objects (next_object a) (next_object b)
-    module_ : Paired grown.v.objects (next_object a + 1) (next_object b + 1)
-    require : Paired grown.v.objects (next_object a + 2) (next_object b + 2)
+  pub record FileMade (w : World) (a b d e : Heap) : Type 0 where
+    pub grown : Grown c w a b d e
+    pub exports : Paired grown.v.objects (next_object a) (next_object b)
+    pub module_ : Paired grown.v.objects (next_object a + 1) (next_object b + 1)
+    pub require : Paired grown.v.objects (next_object a + 2) (next_object b + 2)
 
   freeze_grown : (w : World) (a b : Heap) (o n : ℕ) → Both c w a b → Paired w.objects o n → Grown c w a b (freeze o a) (freeze n b)
   freeze_grown w a b o n x i = objects_grown c w a b x w.objects (λ o n i. i) _ _ refl refl (freeze-alike w.objects (AlikeFunctions c w) a b o n x.heaps i) (alone_set w.objects o n _ b i) (root_written n _ b (freeze_same (Objects.object_at b n)))
@@ -100,7 +100,7 @@ module _ (c : Setting) (k : Keeps c) (fresh : Fresh c) (p q : Sources) (counting
   third_is : (h : Heap) → next_object (exports_made h) ≡ next_object h + 2
   third_is h = length-set (plain_made (plain_made h)).objects _ _ ∙ length_push (plain_made h).objects _ ∙ (let e = second_is h in let z : next_object (plain_made h) + 1 ≡ next_object h + 2 = omega (arith, e) in z)
 
-  file_objects_made : (w : World) (a b : Heap) → Both c w a b → FileMade w a b (F.file_objects a) (F.file_objects b)
+  pub file_objects_made : (w : World) (a b : Heap) → Both c w a b → FileMade w a b (F.file_objects a) (F.file_objects b)
   file_objects_made w a b x =
       let m1 = new_grown c w a b state.Plain state.Plain _ _ x plains (parent_pair w x) in
       let m2 = new_grown c m1.grown.v (plain_made a) (plain_made b) state.Plain state.Plain _ _ m1.grown.both plains (parent_pair m1.grown.v m1.grown.both) in
@@ -119,13 +119,13 @@ module _ (c : Setting) (k : Keeps c) (fresh : Fresh c) (p q : Sources) (counting
         require = g7.later.objects _ _ two;
       }
 
-  cached_more : (w : World) (path : List ℕ) (o n : ℕ) → Paired w.objects o n → (xs ys : List Cached) → AllZip (AlikeCached w) xs ys → AllZip (AlikeCached w) (xs ++ record { path = path; object = o } ∷ []) (ys ++ record { path = path; object = n } ∷ [])
+  pub cached_more : (w : World) (path : List ℕ) (o n : ℕ) → Paired w.objects o n → (xs ys : List Cached) → AllZip (AlikeCached w) xs ys → AllZip (AlikeCached w) (xs ++ record { path = path; object = o } ∷ []) (ys ++ record { path = path; object = n } ∷ [])
   cached_more w path o n i [] [] rs = (record { path = refl; object = i }, tt)
   cached_more w path o n i [] (b ∷ ys) rs = absurd rs
   cached_more w path o n i (a ∷ xs) [] rs = absurd rs
   cached_more w path o n i (a ∷ xs) (b ∷ ys) rs = (rs.0, cached_more w path o n i xs ys rs.1)
 
-  requiring_more : (w : World) (path : List ℕ) (o n : ℕ) → Paired w.objects o n → (xs ys : List Requiring) → AllZip (AlikeRequiring w) xs ys → AllZip (AlikeRequiring w) (xs ++ record { function = o; path = path } ∷ []) (ys ++ record { function = n; path = path } ∷ [])
+  pub requiring_more : (w : World) (path : List ℕ) (o n : ℕ) → Paired w.objects o n → (xs ys : List Requiring) → AllZip (AlikeRequiring w) xs ys → AllZip (AlikeRequiring w) (xs ++ record { function = o; path = path } ∷ []) (ys ++ record { function = n; path = path } ∷ [])
   requiring_more w path o n i [] [] rs = (record { path = refl; function = i }, tt)
   requiring_more w path o n i [] (b ∷ ys) rs = absurd rs
   requiring_more w path o n i (a ∷ xs) [] rs = absurd rs

@@ -1,4 +1,4 @@
-use Rattle.js_counted.proofs.Together.{counters_run}
+use Rattle.js_counted.proofs.Runs.{counters_run}
 use Rattle.js_counted.proofs.running.Goals as goal
 
 pub returns : goal.returns
