@@ -1,3 +1,4 @@
+pub mod Headline
 pub mod Hexadecimal
 pub mod Lists
 pub mod Named

@@ -12,4 +12,4 @@ pub use cov_sources::{Source, Sources, Why, accept};
 pub use fault::InstrumentFault;
 pub use instrumented::Instrumented;
 pub use instrumenting::{instrument_all, text_for};
-pub use laws::reading;
+pub use laws::{reading, simulating};

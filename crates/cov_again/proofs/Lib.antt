@@ -1,0 +1,5 @@
+pub mod Coverage
+pub mod Entries
+pub mod Linked
+pub mod Runs
+pub mod Whole
