@@ -1,5 +1,5 @@
 -- What a task on a source leaves in the store.
-use Rattle.std.proofs.Common.{◌≡◌, ℕ, ◌≤◌, ◌⊎◌, inl, inr, List, Option, None, Some, refl, sym, ap, ◌∙◌, subst, arith}
+use Rattle.std.proofs.Common.{◌≡◌, ℕ, ◌⊎◌, inl, inr, List, Option, None, Some, refl, sym, ap, ◌∙◌, subst, arith}
 use Rattle.std.specs.Prelude.{Result, Ok, Err}
 use Rattle.js_meaning.specs.declared.outcome.End.{End}
 use Rattle.js_meaning.specs.declared.outcome.End.TheVariants as outcome
@@ -11,7 +11,6 @@ use Rattle.cov_run.specs.declared.fault.LoadFault.TheVariants as fault
 use Rattle.cov_words.specs.declared.command.Command.TheVariants.{OnSource}
 use Rattle.cov_words.specs.declared.command.SourceTask.{SourceTask}
 use Rattle.cov_words.specs.declared.command.SourceTask.TheVariants.{Maps, Exec, Run, Demo}
-use Rattle.cov_commands.specs.Coverage.{json_line}
 use Rattle.cov_commands.specs.Line as said
 use Rattle.cov_commands.specs.Program as program
 use Rattle.cov_commands.specs.Program.{Stores}

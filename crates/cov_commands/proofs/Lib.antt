@@ -8,6 +8,7 @@ pub mod Helped
 pub mod InstrumentJudged
 pub mod Judged
 pub mod LineLemmas
+pub mod Meanings
 pub mod Placed
 pub mod PutBelow
 pub mod Stands

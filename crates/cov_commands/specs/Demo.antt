@@ -1,5 +1,5 @@
 -- What `demo` runs, and what it says of the coverage that the run left.
-use Rattle.std.specs.Prelude.{ℕ, true, List, ◌++◌, codes, decimal, Some, Option}
+use Rattle.std.specs.Prelude.{ℕ, true, List, ◌++◌, codes, decimal, Some}
 use Rattle.cov_base.specs.Store.{Held}
 use Rattle.cov_object.specs.declared.file.FileCoverage.{FileCoverage}
 use Rattle.cov_report.specs.Percent.{percent_text}

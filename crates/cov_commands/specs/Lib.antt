@@ -4,6 +4,7 @@ pub mod DemoFile
 pub mod Help
 pub mod Instrument
 pub mod Line
+pub mod Meant
 pub mod private
 pub mod Program
 pub mod Source

@@ -1,6 +1,9 @@
+pub mod Apart
 pub mod Counting
+pub mod Endings
 pub mod Known
 pub mod Loading
+pub mod Meaning
 pub mod OneSession
 pub mod Outcomes
 pub mod Running

@@ -1,5 +1,6 @@
 -- What holds of every loading and every run.
-use Rattle.std.specs.Prelude.{◌≡◌, ℕ, List, Option, Some, Result, Ok, Err}
+use Rattle.std.specs.Prelude.{◌≡◌, ℕ, true, List, Option, Some, Result, Ok, Err, nat_eq, codes}
+use Rattle.std.specs.List.{ends_with}
 use Rattle.js_meaning.specs.World.{PlainRun}
 use Rattle.js_coverage.specs.Coverage.{IsCoverage}
 use Rattle.js_value.specs.State.{Heap}
@@ -10,6 +11,7 @@ use Rattle.cov_sources.specs.declared.source.Source.{Source}
 use Rattle.cov_sources.specs.declared.why.Why.{Why}
 use Rattle.cov_run.specs.Exec.{AreRead, IsFirst, Runs}
 use Rattle.cov_run.specs.Loaded.{IsNoSource, Loaded}
+use Rattle.cov_run.specs.Meant.{AreApart}
 use Rattle.cov_run.specs.Session.{Counts}
 use Rattle.cov_run.specs.declared.fault.LoadFault.{LoadFault}
 use Rattle.cov_run.specs.declared.fault.LoadFault.TheVariants as fault
@@ -34,6 +36,10 @@ OneOutcome = (held : Held) (entry : List ℕ) (exclude : List (List ℕ)) (one o
 -- sources that are loaded begin with the entry, and each is read
 abbrev pub BeginsWithEntry : Type 0
 BeginsWithEntry = (told : Option Held) (entry : List ℕ) (exclude : List (List ℕ)) (sources : List Source) → Loaded told entry exclude (Ok sources) → IsFirst entry sources
+
+-- each is at a path of its own, which ends with `.js` as the entry's does
+abbrev pub LoadsApart : Type 0
+LoadsApart = (told : Option Held) (entry : List ℕ) (exclude : List (List ℕ)) (sources : List Source) → ends_with nat_eq entry (codes ".js") ≡ true → Loaded told entry exclude (Ok sources) → AreApart sources
 
 abbrev pub AllAreRead : Type 0
 AllAreRead = (told : Option Held) (entry : List ℕ) (exclude : List (List ℕ)) (sources : List Source) → Loaded told entry exclude (Ok sources) → AreRead sources

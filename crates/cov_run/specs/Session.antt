@@ -1,6 +1,7 @@
 -- What a run of sources that count their own coverage prints, how it ends, and the coverage that it leaves.
 use Rattle.std.specs.Prelude.{◌≡◌, ℕ, false, List, [], ◌∷◌, Some}
 use Rattle.std.specs.List.{AllZip}
+use Rattle.std.specs.Str.{IsUtf8}
 use Rattle.js_tree.specs.Plain.{File}
 use Rattle.js_scopes.specs.Accepted.{Accepted}
 use Rattle.js_coverage.specs.Coverage.{IsCoverage}
@@ -18,6 +19,7 @@ use Rattle.cov_run.specs.declared.fault.SessionFault.TheVariants as fault
 
 -- a source as the file of a program that runs in its place: where it is counted its instrumented text, read again, and else its own tree
 pub record IsCounting (source : Source) (file : program.Source) : Type 0 where
+  pub utf8 : IsUtf8 source.path
   pub path : file.path ≡ source.path
   pub tree : File
   pub accepted : Accepted source.bytes tree

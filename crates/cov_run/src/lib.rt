@@ -10,7 +10,7 @@ mod run;
 mod sessions;
 
 pub use fault::{LoadFault, SessionFault};
-pub use laws::programs;
+pub use laws::{programs, sessions_mean};
 pub use loader::load;
 pub use reading::read_source;
 pub use run::{Ran, exec};

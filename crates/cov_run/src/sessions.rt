@@ -1,4 +1,4 @@
-ghost use Rattle.std.specs.Prelude.{◌≡◌, ◌<◌, ℕ, List, length, map, IfOk, IfErr};
+ghost use Rattle.std.specs.Prelude.{◌≡◌, ◌<◌, ◌≤◌, ◌-◌, ◌^◌, ℕ, List, length, map, Err, IfOk, IfErr};
 ghost use Rattle.std.specs.List.{AllZip};
 ghost use Rattle.js_tree.specs.Plain as plain;
 ghost use Rattle.js_scopes.specs.Accepted.{Accepted};
@@ -6,12 +6,14 @@ ghost use Rattle.js_meaning.specs.Program as program;
 ghost use Rattle.js_machine.specs.Whole.{Begins};
 ghost use Rattle.cov_sources.specs.Refused.{IsRefused};
 ghost use Rattle.cov_run.specs.Exec.{program_of};
+ghost use Rattle.cov_run.specs.Meant.{AreApart, IsMeant};
 ghost use Rattle.cov_run.specs.Session.{IsCounting, Leaves, IsFault, first_path};
 ghost use Rattle.cov_run.specs.private.Session.{Ends, IsUnmade};
+ghost use Rattle.cov_run.specs.declared.fault.SessionFault.TheVariants.{NotCoverage};
 
 use crate::fault::SessionFault;
 use cov_object::CoverageMap;
-use cov_sim::counting_tree;
+use cov_sim::{counting_tree, simulating};
 use cov_sources::{Source, Sources, Why, accept};
 use items::{Items, Memory, Text};
 use js_machine::{DataFault, Machine, MachineFault, prelude};
@@ -32,13 +34,19 @@ pub struct SessionEnd {
 /// Runs the first of these sources, of which there is one at least, in the program of all of them, with so many steps. Each
 /// that is counted runs by its instrumented text, which is read again.
 ///
+/// Of files each at a path of its own that ends with `.js`, and up to 2^53 - 1 steps: the end, the output and the coverage are those of the
+/// sources' own meaning, and there is always coverage.
+///
 /// # Errors
 /// The first source that isn't accepted, with its cause; that the run left no coverage; want of memory.
 pub fn session(alloc: Global, sources: &Sources, steps: u64) -> Result<SessionEnd, SessionFault>
     requires { 0 < length sources.now.items }
     ensures left { IfOk result (λ left. Leaves sources.now.items steps left.end left.output left.coverage) }
     ensures fault { IfErr result (λ fault. IsFault sources.now.items steps fault) }
+    ensures meant { AreApart sources.now.items → steps ≤ 2 ^ 53 - 1 → IfOk result (λ left. IsMeant sources.now.items steps left.end left.output left.coverage) }
+    ensures counts { AreApart sources.now.items → steps ≤ 2 ^ 53 - 1 → result ≡ Err NotCoverage → ⊥ }
 {
+    simulating();
     run_first(alloc, sources.as_slice(), steps)
 }
 

@@ -1,5 +1,5 @@
 -- What is put for an answer to a task.
-use Rattle.std.specs.Prelude.{◌≡◌, ℕ, ◌≤◌, List, Option, None, Some, Result}
+use Rattle.std.specs.Prelude.{◌≡◌, ℕ, ◌≤◌, List, Option, Some, Result}
 use Rattle.cov_base.specs.Store.{Held, PutsAt}
 use Rattle.cov_base.specs.declared.failed.Failed.{Failed}
 use Rattle.cov_object.specs.declared.file.FileCoverage.{FileCoverage}

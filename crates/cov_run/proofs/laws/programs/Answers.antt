@@ -1,4 +1,5 @@
 use Rattle.cov_run.proofs.Sources.{all_are_read, begins_with_entry, one_run}
+use Rattle.cov_run.proofs.Apart.{loaded_apart}
 use Rattle.cov_run.proofs.Outcomes.{one_outcome, refuses}
 use Rattle.cov_run.proofs.OneSession.{one_coverage, one_session, refuses_none}
 use Rattle.cov_run.proofs.laws.programs.Goals as goal
@@ -26,3 +27,6 @@ returns-clause-refuses_none c = refuses_none
 
 pub returns-clause-refuses : goal.returns-clause-refuses
 returns-clause-refuses c = refuses
+
+pub returns-clause-apart : goal.returns-clause-apart
+returns-clause-apart c = loaded_apart

@@ -1,5 +1,6 @@
 -- The copy that is read has the bytes of the source.
 use Rattle.std.proofs.Common.{◌≡◌, IfOk, IfErr, refl, sym, subst, ◌∙◌, rules}
+use Rattle.std.specs.Str.{IsUtf8}
 use Rattle.js_tree.specs.Plain as plain
 use Rattle.js_tree.specs.Tree.{plain_file}
 use Rattle.js_scopes.specs.Accepted.{Accepted}
@@ -11,6 +12,7 @@ returns-in-Ok-clause-file c =
     let bytes = c.in_ok-bytes.ensures.items ∙ c.as_slice.ensures in
     let path : c.in_ok-path-in-Ok.path ≡ c.args.source.now.path = search rules in
     record {
+      utf8 = subst IsUtf8 c.as_str.ensures c.as_str.utf8;
       path = path;
       tree = plain_file c.in-Ok.tree;
       accepted = subst (λ bytes. Accepted bytes (plain_file c.in-Ok.tree)) bytes
