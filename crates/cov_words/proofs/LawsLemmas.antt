@@ -1,8 +1,9 @@
 -- The plain forms by clap's definitions, which compute at a word once it is known to begin with no `-`.
 use Rattle.std.proofs.Common.{◌≡◌, ℕ, ◌==◌, ◌&&◌, true, false, List, [], ◌∷◌, Option, Some, None, inl, inr, refl, sym, ap, subst, true≢false, arith}
-use Rattle.std.specs.Prelude.{codes, option_and_then, option_map}
+use Rattle.std.specs.Prelude.{codes, nat_le, option_and_then, option_map}
 use Rattle.std.specs.Str.{bytes_eq}
-use Rattle.std.proofs.lemmas.Bool.{ne_eqb}
+use Rattle.std.specs.Str.Parse.{digits_value, without_leading_plus}
+use Rattle.std.proofs.lemmas.Bool.{le-leb, ne_eqb}
 use Rattle.clap.specs.Lexer.{strip_byte}
 use Rattle.clap.specs.ValueTests.{is_unsigned_in}
 use Rattle.clap.specs.declared.builder.value_parser.ValueParser.TheVariants as parser
@@ -53,11 +54,15 @@ plain_number (first ∷ rest) passes = ap (λ test. test && true) (ne_eqb 45 fir
 is_number_of : (digits : List ℕ) → is_unsigned_in 0 max_turns digits ≡ true → is_unsigned_in 0 18446744073709551615 digits ≡ true
 is_number_of digits passes = let taken = accepts-Accepts false (parser.Unsigned 0 max_turns) digits passes in is_number digits taken.0 taken.1
 
+-- no greater than the most
+is_within : (digits : List ℕ) → is_unsigned_in 0 max_turns digits ≡ true → nat_le (digits_value 10 (without_leading_plus digits)) max_turns ≡ true
+is_within digits passes = let taken = accepts-Accepts false (parser.Unsigned 0 max_turns) digits passes in le-leb (digits_value 10 (without_leading_plus digits)) max_turns taken.3
+
 pub exec_turns : ExecTurns
 unfolding clap_on_literals
 exec_turns digits file plain passes =
     let number = plain_number digits passes in
-    rw (no_dashes digits number, no_dash digits number, no_dash digits number, no_dashes file plain, no_dash file plain, no_dash file plain, passes, is_number_of digits passes) refl
+    rw (no_dashes digits number, no_dash digits number, no_dash digits number, no_dashes file plain, no_dash file plain, no_dash file plain, passes, is_number_of digits passes, is_within digits passes) refl
 
 pub no_turns : NoTurns
 unfolding clap_on_literals

@@ -1,3 +1,4 @@
 pub mod Known
 pub mod WordsLemmas
 pub mod LawsLemmas
+pub mod Within

@@ -1,12 +1,13 @@
 -- What the plain forms ask, for any words: by clap's definitions they are as one would write them down.
-use Rattle.std.specs.Prelude.{◌≡◌, ◌⊎◌, ℕ, true, false, List, [], ◌∷◌, Some, None, option_map, nat_eq, codes}
-use Rattle.std.specs.List.{starts_with}
+use Rattle.std.specs.Prelude.{◌≡◌, ◌⊎◌, ℕ, ◌≤◌, true, false, List, [], ◌∷◌, Option, Some, None, option_map, nat_eq, codes}
+use Rattle.std.specs.List.{ends_with, starts_with}
 use Rattle.std.specs.Str.{bytes_eq}
 use Rattle.std.specs.Str.Parse.{digits_value, without_leading_plus}
 use Rattle.clap.specs.ValueTests.{is_unsigned_in}
 use Rattle.path_globs.specs.Source.{source_path}
+use Rattle.cov_words.specs.declared.command.Command.{Command}
 use Rattle.cov_words.specs.declared.command.Command.TheVariants.{OnSource, Instrument, OnCoverage, OnV8}
-use Rattle.cov_words.specs.declared.command.SourceTask.TheVariants.{Maps, Exec, Run}
+use Rattle.cov_words.specs.declared.command.SourceTask.TheVariants.{Maps, Exec, Run, Demo}
 use Rattle.cov_words.specs.declared.command.CoverageTask.TheVariants.{Merge, Report, Check}
 use Rattle.cov_words.specs.declared.command.Reporter.TheVariants as reporter
 use Rattle.cov_words.specs.Words.{command_of, max_turns, patterns_of}
@@ -75,3 +76,13 @@ abbrev pub OtherName : Type 0
 OtherName = (name : List ℕ) (words : List (List ℕ)) → IsPlain name → bytes_eq (codes "maps") name ≡ false → bytes_eq (codes "exec") name ≡ false →
     bytes_eq (codes "instrument") name ≡ false → bytes_eq (codes "merge") name ≡ false → bytes_eq (codes "report") name ≡ false → bytes_eq (codes "check") name ≡ false → bytes_eq (codes "v8") name ≡ false →
     bytes_eq (codes "run") name ≡ false → bytes_eq (codes "demo") name ≡ false → command_of (name ∷ words) ≡ None
+
+-- what is asked for is within bounds: `run` of at most `max_turns` turns, and both it and `demo` of a path that ends with `.js`
+abbrev pub IsWithin : Option Command → Type 0
+IsWithin (Some (OnSource (Run turns out exclude) file)) = (ends_with nat_eq file (codes ".js") ≡ true) × (turns ≤ max_turns)
+IsWithin (Some (OnSource (Demo seed count) file)) = ends_with nat_eq file (codes ".js") ≡ true
+IsWithin other = Unit {0}
+
+-- so it is for any words
+abbrev pub AsksWithin : Type 0
+AsksWithin = (words : List (List ℕ)) → IsWithin (command_of words)

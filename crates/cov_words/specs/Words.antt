@@ -180,9 +180,12 @@ seed_in rows = number_found (codes "seed") rows
 abbrev pub count_in : List Row → Option ℕ
 count_in rows = number_found (codes "count") rows
 
--- the turns of `exec` and `run`: those of the words, or by default
+-- the turns of `exec` and `run`: those of the words, or by default; what passed its rule is at most `max_turns`
+abbrev pub if_turns : ℕ → Option ℕ
+if_turns n = if nat_le n max_turns then Some n else None
+
 abbrev pub turns_in : List Row → Option ℕ
-turns_in rows = number_found (codes "turns") rows
+turns_in rows = option_and_then if_turns (number_found (codes "turns") rows)
 
 -- the path of `instrument`, `run`, `merge` and `v8`, which is not empty
 abbrev pub if_path : Text → Option Text

@@ -20,7 +20,10 @@ fn number_in(own: &ArgMatches<'_>, name: &str) -> Option<u64>
 pub(crate) fn turns_in(own: &ArgMatches<'_>) -> Option<u64>
     ensures { result ≡ spec.turns_in (rows_of (found_of own.now)) }
 {
-    number_in(own, "turns")
+    match number_in(own, "turns") {
+        Some(turns) if turns <= 9_007_199_254_740_991 => Some(turns),
+        _ => None,
+    }
 }
 
 /// The number that was found for SEED.

@@ -1,4 +1,4 @@
-ghost use Rattle.cov_words.specs.Laws.{MapsFile, ExecFile, ExecTurns, NoTurns, OneFile, RunFile, RunExcluding, InstrumentFile, MergeFile, ReportFile, CheckFiles, V8File, OtherName};
+ghost use Rattle.cov_words.specs.Laws.{MapsFile, ExecFile, ExecTurns, NoTurns, OneFile, RunFile, RunExcluding, InstrumentFile, MergeFile, ReportFile, CheckFiles, V8File, OtherName, AsksWithin};
 
 /// What the plain forms ask, for any words.
 pub fn plain_words()
@@ -15,4 +15,5 @@ pub fn plain_words()
     ensures check_files { CheckFiles }
     ensures v8_file { V8File }
     ensures other_name { OtherName }
+    ensures asks_within { AsksWithin }
 {}

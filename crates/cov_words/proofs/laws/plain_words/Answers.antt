@@ -1,4 +1,5 @@
 use Rattle.cov_words.proofs.LawsLemmas.{maps_file, exec_file, exec_turns, no_turns, one_file, run_file, run_excluding, instrument_file, merge_file, report_file, check_files, v8_file, other_name}
+use Rattle.cov_words.proofs.Within.{asks_within}
 use Rattle.cov_words.proofs.laws.plain_words.Goals as goal
 
 pub returns-clause-maps_file : goal.returns-clause-maps_file
@@ -39,3 +40,6 @@ returns-clause-report_file c = report_file
 
 pub returns-clause-check_files : goal.returns-clause-check_files
 returns-clause-check_files c = check_files
+
+pub returns-clause-asks_within : goal.returns-clause-asks_within
+returns-clause-asks_within c = asks_within
