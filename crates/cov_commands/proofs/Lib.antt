@@ -13,4 +13,5 @@ pub mod Placed
 pub mod PutBelow
 pub mod Stands
 pub mod Texts
+pub mod TextsMeant
 pub mod V8Judged

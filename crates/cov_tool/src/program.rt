@@ -2,13 +2,14 @@ ghost use Rattle.std.specs.Prelude.{◌≡◌, ◌≢◌, ◌⊎◌, ℕ, List, 
 ghost use Rattle.cov_base.specs.Causes.{Rose};
 ghost use Rattle.cov_base.specs.Sink.{TakesPrefix};
 ghost use Rattle.cov_words.specs.Words as asked;
+ghost use Rattle.cov_commands.specs.Meant.{DoesByMeaning};
 ghost use Rattle.cov_commands.specs.Program.{IsDue, Comes, IsUsage, IsOutput, PrintsAll, PrintsOutput, PrintsPrefix, PrintsNothing, Stores, CountsPuts, SaysFailedRead, SaysLines, SaysAtMost};
 
 use cov_base::{Sink, Store};
 use cov_commands::{
-    Complaint, Status, complain, on_coverage, on_help, on_instrument, on_source, on_v8,
+    Complaint, Status, by_meaning, complain, on_coverage, on_help, on_instrument, on_source, on_v8,
 };
-use cov_words::{Command, command_of};
+use cov_words::{Command, command_of, plain_words};
 use std::alloc::Global;
 
 /// Does all that the program does: takes the words after the program's name, reads from the store,
@@ -59,7 +60,13 @@ pub fn cov<S: Store, O: Sink, E: Sink>(
         (E.taken err.old) (E.taken err.new) (E.faults err.old) (E.faults err.new) }
     ensures one_line { result ≡ Status.Memory
         → SaysAtMost (asked.command_of (map string_bytes words.now)) (S.held store.old) (E.taken err.old) (E.taken err.new) }
+
+    // That it is what the sources mean: `run` prints, ends and counts so, and so do the texts that `instrument` puts.
+    ensures meant { DoesByMeaning (asked.command_of (map string_bytes words.now)) result (S.held store.old) (S.held store.new) (O.taken out.old) (O.taken out.new)
+        (E.taken err.old) (E.taken err.new) (E.faults err.old) (E.faults err.new) }
 {
+    by_meaning();
+    plain_words();
     let Ok(read) = command_of(alloc, words) else {
         return complain(alloc, &Complaint::OutOfMemory, err);
     };

@@ -1,9 +1,12 @@
 -- Each clause from what the words ask.
-use Rattle.std.proofs.Common.{rules, ◌≡◌, Global, Some, None, map, string_bytes, refl, subst}
+use Rattle.std.proofs.Common.{rules, ◌≡◌, Global, Some, None, map, string_bytes, refl, subst, sym}
+use Rattle.cov_words.specs.Laws.{IsWithin}
 use Rattle.cov_words.specs.Words as asked
 use Rattle.cov_words.specs.declared.command.Command.TheVariants.{Help, OnSource, Instrument, OnCoverage, OnV8}
+use Rattle.cov_commands.specs.Meant.{DoesByMeaning}
 use Rattle.cov_commands.specs.Program.{PrintsPrefix, SaysAtMost, SaysLines}
 use Rattle.cov_commands.proofs.Stands.{complained, memory_is_said, usage_is_said, says_at_most, prints_nothing, stores_nothing, counts_no_puts}
+use Rattle.cov_commands.proofs.Meanings.{wants_memory}
 use Rattle.cov_tool.proofs.program.cov.Goals as goal
 
 -- ---- no memory for the words
@@ -65,3 +68,33 @@ pub returns-clause-says : goal.returns-clause-says
 returns-clause-says g c = λ other.
     let some : Some (OnV8 c.as_str-in-Some-OnV8.result.now c.as_slice-in-Some-OnV8.result.now) ≡ asked.command_of (map (string_bytes {Z = Global}) c.args.words.now) = search rules in
     subst (λ what. SaysLines what c.on_v8.result (g.S.Store.held c.args.store.now) (g.E.Sink.taken c.args.err.now) (g.E.Sink.taken c.on_v8.new.err) (g.E.Sink.faults c.args.err.now) (g.E.Sink.faults c.on_v8.new.err)) some (c.on_v8.ensures.says other)
+
+-- ---- by the meaning
+
+pub returns-in_default-clause-meant : goal.returns-in_default-clause-meant
+returns-in_default-clause-meant g c =
+    wants_memory (g.S.Store.held c.args.store.now) (g.S.Store.held c.args.store.now) (g.O.Sink.taken c.args.out.now) (g.O.Sink.taken c.args.out.now)
+    (g.E.Sink.taken c.args.err.now) (g.E.Sink.taken c.complain.new.err) (g.E.Sink.faults c.args.err.now) (g.E.Sink.faults c.complain.new.err)
+    (asked.command_of (map (string_bytes {Z = Global}) c.args.words.now)) c.complain.ensures.status
+
+pub returns-in-Some-OnSource-clause-meant : goal.returns-in-Some-OnSource-clause-meant
+returns-in-Some-OnSource-clause-meant g c =
+    let some : Some (OnSource c.in-Some-OnSource.task c.as_str.result.now) ≡ asked.command_of (map (string_bytes {Z = Global}) c.args.words.now) = search rules in
+    let e = c.on_source.ensures in
+    subst (λ what. DoesByMeaning what c.on_source.result (g.S.Store.held c.args.store.now) (g.S.Store.held c.on_source.new.store) (g.O.Sink.taken c.args.out.now) (g.O.Sink.taken c.on_source.new.out)
+    (g.E.Sink.taken c.args.err.now) (g.E.Sink.taken c.on_source.new.err) (g.E.Sink.faults c.args.err.now) (g.E.Sink.faults c.on_source.new.err)) some
+    (c.by_meaning.ensures.acts (Some (OnSource c.in-Some-OnSource.task c.as_str.result.now)) c.on_source.result (g.S.Store.held c.args.store.now) (g.S.Store.held c.on_source.new.store)
+    (g.O.Sink.taken c.args.out.now) (g.O.Sink.taken c.on_source.new.out)
+    (g.E.Sink.taken c.args.err.now) (g.E.Sink.taken c.on_source.new.err) (g.E.Sink.faults c.args.err.now) (g.E.Sink.faults c.on_source.new.err)
+    (subst IsWithin (sym some) (c.plain_words.ensures.asks_within (map (string_bytes {Z = Global}) c.args.words.now))) e.due e.printed e.stores e.says)
+
+pub returns-in-Some-Instrument-clause-meant : goal.returns-in-Some-Instrument-clause-meant
+returns-in-Some-Instrument-clause-meant g c =
+    let some : Some (Instrument c.as_str-in-Some-Instrument.result.now c.as_slice.result.now) ≡ asked.command_of (map (string_bytes {Z = Global}) c.args.words.now) = search rules in
+    let e = c.on_instrument.ensures in
+    subst (λ what. DoesByMeaning what c.on_instrument.result (g.S.Store.held c.args.store.now) (g.S.Store.held c.on_instrument.new.store) (g.O.Sink.taken c.args.out.now) (g.O.Sink.taken c.args.out.now)
+    (g.E.Sink.taken c.args.err.now) (g.E.Sink.taken c.on_instrument.new.err) (g.E.Sink.faults c.args.err.now) (g.E.Sink.faults c.on_instrument.new.err)) some
+    (c.by_meaning.ensures.acts (Some (Instrument c.as_str-in-Some-Instrument.result.now c.as_slice.result.now)) c.on_instrument.result (g.S.Store.held c.args.store.now) (g.S.Store.held c.on_instrument.new.store)
+    (g.O.Sink.taken c.args.out.now) (g.O.Sink.taken c.args.out.now)
+    (g.E.Sink.taken c.args.err.now) (g.E.Sink.taken c.on_instrument.new.err) (g.E.Sink.faults c.args.err.now) (g.E.Sink.faults c.on_instrument.new.err)
+    tt e.due (λ all. refl) e.stores e.says)
