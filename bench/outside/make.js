@@ -29,7 +29,7 @@ function maker(draw) {
   }
 
   // What stands round a place: names that can be read, those that can be written, functions with how many arguments they ask for,
-  // whether it is in a loop or a function, and the labels of loops and of blocks.
+  // whether it is in a loop or a function, and the labels of the loops round it.
   const opened = scope => ({ ...scope, read: [...scope.read], write: [...scope.write], calls: [...scope.calls] });
 
   const literal = () => String(draw(10));
@@ -133,7 +133,7 @@ function maker(draw) {
   function callable(scope, room) {
     const name = fresh(CALLS);
     const { names, least, text } = parametersOf(scope);
-    const inside = { ...opened(scope), write: [...names], inFunction: true, inLoop: false, loops: [], blocks: [] };
+    const inside = { ...opened(scope), write: [...names], inFunction: true, inLoop: false, loops: [] };
     inside.read.push(...names);
     const lines = () => [...block(inside, Math.min(room, 3) - 1), `return ${number(inside)};`];
     const form = draw(5);
@@ -191,20 +191,19 @@ function maker(draw) {
     }
   }
 
-  function switching(scope, room) {
+  function switching(scope) {
     const lines = [];
     const numbers = [0, 1, 2].slice(0, 1 + draw(3));
     const where = draw(numbers.length + 2);
-    const inside = { ...scope, inSwitch: true };
     [...numbers.slice(0, where), ...(where <= numbers.length ? [null] : []), ...numbers.slice(where)].forEach(one => {
       const end = chance(55) ? " break;" : "";
-      const does = chance(85) ? ` ${simple(inside)}` : "";
+      const does = chance(85) ? ` ${simple(scope)}` : "";
       lines.push(`${one === null ? "default" : `case ${one}`}:${does}${end}`);
     });
     return braced(`switch (${chance(50) ? `${value(scope)} % 3` : number(scope, 1)})`, lines);
   }
 
-  function trying(scope, room) {
+  function trying(scope) {
     const form = draw(3);
     const thrown = pick([literal(), `new Error("${pick(NAMES)}")`, `new RangeError(\`\${${value(scope)}}\`)`, `"${pick(NAMES)}"`]);
     const lines = braced("try", [...(chance(50) ? [simple(scope)] : []), chance(60) ? `if (${condition(scope)}) throw ${thrown};` : scope.inFunction && chance(40) ? `return ${number(scope)};` : `throw ${thrown};`,
@@ -224,7 +223,7 @@ function maker(draw) {
     return lines;
   }
 
-  function labelled(scope, room) {
+  function labelled(scope) {
     const label = fresh(["done", "found", "once"]);
     return braced(`${label}:`, [...block(scope, 1), `if (${condition(scope)}) break ${label};`, simple(scope)]);
   }
@@ -244,9 +243,9 @@ function maker(draw) {
     if (kind < 37) return closure(scope);
     if (kind < 48) return conditional(scope, room);
     if (kind < 58) return loop(scope, room);
-    if (kind < 70) return switching(scope, room);
-    if (kind < 82) return trying(scope, room);
-    if (kind < 87) return labelled(scope, room);
+    if (kind < 70) return switching(scope);
+    if (kind < 82) return trying(scope);
+    if (kind < 87) return labelled(scope);
     if (kind < 91) return constructed(scope);
     if (kind < 93) return [pick([";", "debugger;", "{}", "{ ; }"])];
     if (kind < 98 && scope.inLoop && scope.loops.length > 0) return [`if (${condition(scope)}) ${pick(["continue", "break"])} ${pick(scope.loops)};`];
@@ -260,7 +259,7 @@ function maker(draw) {
   }
 
   const fileOf = lines => `${(chance(20) ? bare(lines) : lines).join("\n")}\n`;
-  const empty = () => ({ read: [], write: [], calls: [], inLoop: false, inFunction: false, loops: [], blocks: [] });
+  const empty = () => ({ read: [], write: [], calls: [], inLoop: false, inFunction: false, loops: [] });
   const specifier = (from, to) => {
     const up = from.split("/").length - 1;
     const text = `${up > 0 ? "../".repeat(up) : "./"}${to}`;

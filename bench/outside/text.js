@@ -146,5 +146,4 @@ function textOf(tree, counted) {
   return statements(tree.body);
 }
 
-// The text of an expression of a file that isn't counted.
 module.exports = { textOf };
