@@ -6,8 +6,7 @@ ghost use Rattle.js_held.specs.Held.{HoldMeans, NeedsHold};
 use js_meaning::shapes;
 
 /// A counted function that is held under its name means the counter, and then the function with that
-/// name: it is made after one more object, which nothing else refers to. What needs to be held is such
-/// a function.
+/// name, which is made after one more object. What needs to be held is such a function.
 pub fn holding()
     ensures means { HoldMeans }
     ensures needs { NeedsHold }
