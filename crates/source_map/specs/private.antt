@@ -4,3 +4,4 @@ pub mod Lines
 pub mod Digits
 pub mod Next
 pub mod Order
+pub mod Fit

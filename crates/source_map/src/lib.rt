@@ -4,6 +4,7 @@
 mod composed;
 mod digit;
 mod fault;
+mod fit;
 mod laws;
 mod line;
 mod map;

@@ -1,5 +1,6 @@
-ghost use Rattle.std.specs.Prelude.{◌≡◌, ◌≢◌, ◌≤◌, ◌-◌, ◌+◌, ◌*◌, ◌^◌, ℕ, length, option_map, Ok, Err, IfOk, IfErr, IfSome};
+ghost use Rattle.std.specs.Prelude.{◌≡◌, ◌≢◌, ◌≤◌, ◌-◌, ◌+◌, ◌*◌, ◌^◌, ℕ, length, option_map, Ok, Err, IfOk, IfErr, IfSome, IfNone};
 ghost use Rattle.source_map.specs.declared.fault.MapFault.TheVariants.{Memory as OutOfMemory};
+ghost use Rattle.source_map.specs.Laws.{IsMap};
 ghost use Rattle.source_map.specs.Read.{source_map_of};
 ghost use Rattle.source_map.specs.Trace as spec;
 ghost use Rattle.source_map.specs.Write.{map_text};
@@ -8,7 +9,7 @@ use crate::fault::MapFault;
 use crate::laws::reading;
 use crate::place::{Parts, Traced};
 use crate::steps::Steps;
-use crate::{composed, reader, search, written};
+use crate::{composed, fit, reader, search, written};
 use items::Memory;
 use std::alloc::Global;
 use std::marker::Model;
@@ -32,6 +33,18 @@ impl Model for SourceMap {
 }
 
 impl SourceMap {
+    /// The map of these parts; none where a number is out of range or the segments stand in no order.
+    pub fn of(parts: Parts) -> Option<SourceMap>
+        ensures some { IfSome result (λ map. map ≡ parts) }
+        ensures none { IfNone result (IsMap parts → ⊥) }
+    {
+        if fit::is_map(&parts) {
+            Some(SourceMap { parts })
+        } else {
+            None
+        }
+    }
+
     /// The text of a source; none where it is null or past the list.
     pub fn source(&self, number: u32) -> Option<&str>
         ensures { option_map (λ text. text.now) result ≡ spec.source self.now number }

@@ -1,0 +1,3 @@
+pub mod Marked
+pub mod Laws
+pub mod Worked
