@@ -1,5 +1,5 @@
 -- What words ask for is within bounds: a branch of the reading after another.
-use Rattle.std.proofs.Common.{◌≡◌, ℕ, ◌≤◌, Bool, true, false, List, Option, None, Some, if◌then◌else◌, nat_eq, codes, refl}
+use Rattle.std.proofs.Common.{◌≡◌, ℕ, ◌≤◌, Bool, true, false, List, [], ◌∷◌, ◌++◌, Option, None, Some, if◌then◌else◌, nat_eq, codes, refl}
 use Rattle.std.specs.Prelude.{nat_le, option_and_then, option_map}
 use Rattle.std.specs.List.{ends_with}
 use Rattle.std.specs.Str.{bytes_eq}
@@ -12,7 +12,7 @@ use Rattle.cov_words.specs.declared.command.Command.TheVariants.{Help, OnSource,
 use Rattle.cov_words.specs.declared.command.CoverageTask.{CoverageTask}
 use Rattle.cov_words.specs.declared.command.SourceTask.{SourceTask}
 use Rattle.cov_words.specs.declared.command.SourceTask.TheVariants.{Maps, Exec, Run, Demo}
-use Rattle.cov_words.specs.Laws.{AsksWithin, IsWithin}
+use Rattle.cov_words.specs.Laws.{AreSourcePaths, AsksWithin, IsWithin}
 use Rattle.cov_words.specs.Words as spec
 use Rattle.cov_words.specs.Words.{max_turns}
 
@@ -86,10 +86,35 @@ demo None count = tt
 demo (Some seed) None = tt
 demo (Some seed) (Some count) = refl
 
-instrument : (out : Option (List ℕ)) (files : Option (List (List ℕ))) → IsWithin (option_and_then (λ path. option_map (Instrument path) files) out)
-instrument None files = tt
-instrument (Some out) None = tt
-instrument (Some out) (Some files) = tt
+-- the files of `instrument`, one after another
+one_more : (paths : List (List ℕ)) (path : List ℕ) → AreSourcePaths paths → EndsSo (Some path) → AreSourcePaths (paths ++ path ∷ [])
+one_more [] path are ends = (ends, tt)
+one_more (first ∷ paths) path are ends = (are.0, one_more paths path are.1 ends)
+
+with_one : (paths : List (List ℕ)) (path : List ℕ) → AreSourcePaths paths → EndsSo (Some path) → AreSourcePaths (spec.with_path paths path)
+with_one paths path are ends = by_test AreSourcePaths (spec.is_among path paths) paths (paths ++ path ∷ []) (λ is. are) (λ is. one_more paths path are ends)
+
+abbrev AllEndSo : Option (List (List ℕ)) → Type 0
+AllEndSo None = Unit {0}
+AllEndSo (Some files) = AreSourcePaths files
+
+all_paths : (paths : List (List ℕ)) (words : List Text) → AreSourcePaths paths → AllEndSo (spec.with_sources paths words)
+all_paths paths [] are = are
+all_paths paths (word ∷ words) are = by (source_path word) (file_ends (Some word)) (λ path ends. all_paths (spec.with_path paths path) words (with_one paths path are ends))
+  where
+    by : (found : Option (List ℕ)) → EndsSo found → ((path : List ℕ) → EndsSo (Some path) → AllEndSo (spec.with_sources (spec.with_path paths path) words)) →
+        AllEndSo (option_and_then (λ path. spec.with_sources (spec.with_path paths path) words) found)
+    by None ends rest = tt
+    by (Some path) ends rest = rest path ends
+
+sources : (words : Option (List Text)) → AllEndSo (option_and_then spec.sources_of words)
+sources None = tt
+sources (Some words) = all_paths [] words tt
+
+instrument : (out : Option (List ℕ)) (files : Option (List (List ℕ))) → AllEndSo files → IsWithin (option_and_then (λ path. option_map (Instrument path) files) out)
+instrument None files ends = tt
+instrument (Some out) None ends = tt
+instrument (Some out) (Some files) ends = ends
 
 on_v8 : (out : Option (List ℕ)) (files : Option (List (List ℕ))) → IsWithin (option_and_then (λ path. option_map (OnV8 path) files) out)
 on_v8 None files = tt
@@ -110,7 +135,7 @@ request : (name : Text) (rows : List Row) → IsWithin (spec.request_in (name, r
 request name rows =
     by_name name (codes "maps") (spec.on_source (Some Maps) rows) _ (on_source (Some Maps) rows tt)
     (by_name name (codes "exec") (spec.on_source (spec.exec_in rows) rows) _ (on_source (spec.exec_in rows) rows (executed (spec.turns_in rows)))
-    (by_name name (codes "instrument") (spec.instrument_in rows) _ (instrument (spec.out_in rows) (spec.sources_in rows))
+    (by_name name (codes "instrument") (spec.instrument_in rows) _ (instrument (spec.out_in rows) (spec.sources_in rows) (sources (spec.files_in rows)))
     (by_name name (codes "run") (spec.on_source (spec.run_in rows) rows) _
     (on_source (spec.run_in rows) rows (run (spec.turns_in rows) (spec.out_in rows) (spec.exclude_in rows) (few_turns (spec.number_found (codes "turns") rows))))
     (by_name name (codes "demo") (spec.demo_in rows) _ (demo (spec.seed_in rows) (spec.count_in rows))

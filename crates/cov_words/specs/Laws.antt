@@ -77,10 +77,16 @@ OtherName = (name : List ℕ) (words : List (List ℕ)) → IsPlain name → byt
     bytes_eq (codes "instrument") name ≡ false → bytes_eq (codes "merge") name ≡ false → bytes_eq (codes "report") name ≡ false → bytes_eq (codes "check") name ≡ false → bytes_eq (codes "v8") name ≡ false →
     bytes_eq (codes "run") name ≡ false → bytes_eq (codes "demo") name ≡ false → command_of (name ∷ words) ≡ None
 
--- what is asked for is within bounds: `run` of at most `max_turns` turns, and both it and `demo` of a path that ends with `.js`
+-- each of these paths ends with `.js`
+abbrev pub AreSourcePaths : List (List ℕ) → Type 0
+AreSourcePaths [] = Unit {0}
+AreSourcePaths (file ∷ files) = (ends_with nat_eq file (codes ".js") ≡ true) × AreSourcePaths files
+
+-- what is asked for is within bounds: `run` of at most `max_turns` turns, and it, `demo` and `instrument` of paths that end with `.js`
 abbrev pub IsWithin : Option Command → Type 0
 IsWithin (Some (OnSource (Run turns out exclude) file)) = (ends_with nat_eq file (codes ".js") ≡ true) × (turns ≤ max_turns)
 IsWithin (Some (OnSource (Demo seed count) file)) = ends_with nat_eq file (codes ".js") ≡ true
+IsWithin (Some (Instrument out files)) = AreSourcePaths files
 IsWithin other = Unit {0}
 
 -- so it is for any words
