@@ -1,24 +1,34 @@
 -- What is put for files, one after the other.
-use Rattle.std.proofs.Common.{◌≡◌, ℕ, suc, ◌+◌, ◌<◌, ◌≤◌, not, ◌||◌, true, false, List, [], ◌∷◌, ◌++◌, length, take, drop, get_or, Option, refl, sym, ap, ◌∙◌, subst, drop-cons, arith}
-use Rattle.std.specs.Option.{unwrap_or}
+use Rattle.std.proofs.Common.{◌≡◌, ℕ, suc, ◌+◌, ◌<◌, ◌≤◌, Bool, not, ◌||◌, true, false, List, [], ◌∷◌, ◌++◌, length, take, drop, get_or, Option, None, Some, if◌then◌else◌, refl, sym, ap, ◌∙◌, subst, drop-cons, arith}
+use Rattle.std.specs.Option.{option_map, unwrap_or}
 use Rattle.std.proofs.lemmas.List.{take_more}
 use Rattle.js_tree.specs.Plain.{File}
 use Rattle.cov_base.specs.Store.{Held}
 use Rattle.cov_run.specs.Loaded.{most}
 use Rattle.cov_run.specs.declared.fault.LoadFault.{LoadFault}
 use Rattle.cov_sim.specs.Instrumented as sim
-use Rattle.cov_sim.specs.Instrumented.{Instruments, is_ignored}
+use Rattle.cov_sim.specs.Instrumented.{Instruments, is_ignored, mapped_text}
+use Rattle.cov_sim.specs.declared.instrumented.MappedText.{MappedText}
 use Rattle.cov_sources.specs.declared.source.Source.{Source}
 use Rattle.cov_commands.specs.Instrument as S
-use Rattle.cov_commands.specs.Instrument.{Each, AreSources, HoldsSource, IsTextOf, StopsAt}
+use Rattle.cov_commands.specs.Instrument.{Each, AreSources, HoldsSource, IsTextOf, StopsAt, map_for}
 use Rattle.cov_commands.specs.private.Written.{IsWritten, AreWritten, files_of}
 use Rattle.cov_commands.specs.declared.written.Written.{Written}
 
+map_if : (file : Source) (tree : File) (ignored : Bool) → is_ignored tree ≡ ignored → map_for file.path file.bytes tree ≡ (if ignored then None else Some (mapped_text file.path file.bytes tree).map)
+map_if file tree ignored is = ap (λ b. if b then None else Some (mapped_text file.path file.bytes tree).map) is
+
 -- the text of a source that is counted, or its bytes
-pub counted_text : (file : Source) (tree : File) (text : Option (List ℕ)) → file.counted ≡ true → Instruments file tree text →
-    IsTextOf file.path file.bytes tree (unwrap_or text file.bytes)
+pub counted_text : (file : Source) (tree : File) (text : Option MappedText) → file.counted ≡ true → Instruments file tree text →
+    IsTextOf file.path file.bytes tree (unwrap_or (option_map (λ (m : MappedText). m.text) text) file.bytes)
 counted_text file tree _ counted (sim.left out) = S.left (subst (λ c. (not c || is_ignored tree) ≡ true) counted out)
 counted_text file tree _ counted (sim.made kept again) = S.made (subst (λ c. (not c || is_ignored tree) ≡ false) counted kept) again
+
+-- and its map, or none
+pub counted_map : (file : Source) (tree : File) (text : Option MappedText) → file.counted ≡ true → Instruments file tree text →
+    option_map (λ (m : MappedText). m.map) text ≡ map_for file.path file.bytes tree
+counted_map file tree _ counted (sim.left out) = sym (map_if file tree true (subst (λ c. (not c || is_ignored tree) ≡ true) counted out))
+counted_map file tree _ counted (sim.made kept again) = sym (map_if file tree false (subst (λ c. (not c || is_ignored tree) ≡ false) counted kept))
 
 -- ---- where this is put for all files they are sources
 

@@ -1,17 +1,17 @@
 -- The texts that `instrument` puts are the instrumented texts of any program of its files.
-use Rattle.std.proofs.Common.{◌≡◌, ℕ, inl, inr, Bool, true, false, List, [], ◌∷◌, Option, None, Some, refl, sym, ap, ◌∙◌, subst}
+use Rattle.std.proofs.Common.{◌≡◌, ℕ, inl, inr, Bool, true, false, List, [], ◌∷◌, Option, None, Some, if◌then◌else◌, refl, sym, ap, ◌∙◌, subst}
 use Rattle.std.specs.Prelude.{not, ◌||◌}
+use Rattle.std.specs.Option.{option_or}
 use Rattle.js_tree.specs.Plain.{File}
-use Rattle.js_layout.specs.Layout.{layout}
 use Rattle.js_scopes.specs.Accepted.{Accepted}
 use Rattle.cov_base.specs.Store.{Held, BothTell}
 use Rattle.cov_sim.specs.Headline.{HavePaths, Headline}
-use Rattle.cov_sim.specs.Instrumented.{AreInstrumented, counted, instrumented, is_ignored, is_left_out, passed_over}
+use Rattle.cov_sim.specs.Instrumented.{AreInstrumented, counted, instrumented_as, is_ignored, is_left_out, mapped_text, passed_over}
 use Rattle.cov_sim.specs.Instrumented as sim
 use Rattle.cov_sim.specs.declared.instrumented.Instrumented.{Instrumented}
 use Rattle.cov_sources.specs.declared.source.Source.{Source}
 use Rattle.cov_commands.specs.Instrument as instrument
-use Rattle.cov_commands.specs.Instrument.{Each, IsTextOf, Puts, PutsAll, Stands, path_below}
+use Rattle.cov_commands.specs.Instrument.{Each, IsTextOf, Puts, PutsAll, Stands, map_below, map_for, path_below}
 use Rattle.cov_commands.specs.Meant.{AreAmong, InstrumentsAsMeant, IsMember, TheyStand, its_text, itself, none}
 use Rattle.cov_commands.specs.declared.status.Status.{Status}
 use Rattle.cov_commands.specs.declared.status.Status.TheVariants as status
@@ -37,23 +37,25 @@ record Meant (out : List ℕ) (sources : List Source) (new : Held) : Type 0 wher
 
 module _ (out : List ℕ) (new : Held) (source : Source) (sources : List Source) (counts : source.counted ≡ true) (rest : Meant out sources new) where
   -- with one more
-  one_more : (tree : File) (text : List ℕ) → Accepted source.bytes tree → IsTextOf source.path source.bytes tree text → new (path_below out source.path) ≡ Some text → Meant out (source ∷ sources) new
-  one_more tree text accepted (instrument.left ignored) stands =
+  one_more : (old : Held) (tree : File) (text : List ℕ) → Accepted source.bytes tree → IsTextOf source.path source.bytes tree text → new (path_below out source.path) ≡ Some text →
+      new (map_below out source.path) ≡ option_or (map_for source.path source.bytes tree) (old (map_below out source.path)) → Meant out (source ∷ sources) new
+  one_more old tree text accepted (instrument.left ignored) stands map =
       let left = left_if source tree true counts ignored in
       record { texts = rest.texts; are = passed_over tree accepted (sim.left left) rest.are; stand = itself tree accepted left stands rest.stand }
-  one_more tree text accepted (instrument.made kept again) stands =
+  one_more old tree text accepted (instrument.made kept again) stands map =
       let made = left_if source tree false counts kept in
-      let text = layout (instrumented source.path source.bytes tree) in
+      let mapped = mapped_text source.path source.bytes tree in
       record {
-        texts = record { path = source.path; text = text } ∷ rest.texts;
-        are = counted tree text accepted (sim.made made again) rest.are;
-        stand = its_text refl stands rest.stand;
+        texts = instrumented_as source mapped ∷ rest.texts;
+        are = counted tree mapped accepted (sim.made made again) rest.are;
+        stand = its_text refl stands (map ∙ ap (λ b. option_or (if b then None else Some mapped.map) (old (map_below out source.path))) kept) rest.stand;
       }
 
   by_stands : (old : Held) → old source.path ≡ Some source.bytes → Stands out old new source.path → Meant out (source ∷ sources) new
   by_stands old holds s =
       let same : s.bytes ≡ source.bytes = some_is (sym s.source.held ∙ holds) in
-      one_more s.tree s.text (subst (λ b. Accepted b s.tree) same s.source.accepted) (subst (λ b. IsTextOf source.path b s.tree s.text) same s.is) s.stands
+      one_more old s.tree s.text (subst (λ b. Accepted b s.tree) same s.source.accepted) (subst (λ b. IsTextOf source.path b s.tree s.text) same s.is) s.stands
+      (subst (λ b. new (map_below out source.path) ≡ option_or (map_for source.path b s.tree) (old (map_below out source.path))) same s.map)
 
 they_are : (out : List ℕ) (files : List (List ℕ)) (old new : Held) (sources : List Source) → Each (Stands out old new) files → AreAmong files old sources → Meant out sources new
 they_are out files old new [] each among = record { texts = []; are = sim.none; stand = none }

@@ -1,8 +1,12 @@
--- What is owed for `instrument`: the instrumented texts of source files are put below a folder. When each status is due, what is put,
--- and what is said. Nothing is printed. Of what is held it speaks where the store tells that.
-use Rattle.std.specs.Prelude.{◌≡◌, ◌≢◌, ◌⊎◌, ℕ, ◌+◌, ◌<◌, ◌≤◌, true, false, List, [], ◌∷◌, ◌++◌, length, Option, Some}
+-- What is owed for `instrument`: the instrumented texts of source files are put below a folder, each with its map. When each status is
+-- due, what is put, and what is said. Nothing is printed. Of what is held it speaks where the store tells that.
+use Rattle.std.specs.Prelude.{◌≡◌, ◌≢◌, ◌⊎◌, ℕ, ◌+◌, ◌<◌, ◌≤◌, true, false, List, [], ◌∷◌, ◌++◌, length, Option, None, Some, if◌then◌else◌, nat_eq, codes}
+use Rattle.std.specs.List.{ends_with}
+use Rattle.std.specs.Option.{option_or}
 use Rattle.js_tree.specs.Plain.{File}
 use Rattle.js_layout.specs.Layout.{layout}
+use Rattle.source_map.specs.Write.{map_text}
+use Rattle.printed_map.specs.Marked.{marked}
 use Rattle.cov_base.specs.Store.{Held, BothTell}
 use Rattle.cov_run.specs.Loaded.{IsSource, IsUnread, most}
 use Rattle.cov_run.specs.declared.fault.LoadFault.{LoadFault}
@@ -19,11 +23,18 @@ abbrev pub Each : {A : Type 0} → (A → Type 0) → List A → Type 0
 Each P [] = Unit {0}
 Each P (x ∷ xs) = P x × Each P xs
 
+-- the path of a source file
+abbrev pub IsSourcePath : List ℕ → Type 0
+IsSourcePath file = ends_with nat_eq file (codes ".js") ≡ true
+
 -- ---- what is put
 
--- the path of a file below the folder
+-- the path of a file below the folder, and that of its map
 abbrev pub path_below : List ℕ → List ℕ → List ℕ
 path_below out file = out ++ 0x2F ∷ file
+
+abbrev pub map_below : List ℕ → List ℕ → List ℕ
+map_below out file = path_below out (file ++ codes ".map")
 
 -- what is put for the source at a path with these bytes and this tree: its bytes where a comment takes it out, and else its
 -- instrumented text, which is read again as the instrumented tree
@@ -31,6 +42,10 @@ pub data IsTextOf (path bytes : List ℕ) (tree : File) : List ℕ → Type 0 wh
   left : is_ignored tree ≡ true → IsTextOf path bytes tree bytes
   made : is_ignored tree ≡ false → IsReadAgain (layout (instrumented path bytes tree)) (instrumented path bytes tree) →
       IsTextOf path bytes tree (layout (instrumented path bytes tree))
+
+-- the text of the map of its instrumented text; it has none where a comment takes it out
+abbrev pub map_for : (path bytes : List ℕ) → File → Option (List ℕ)
+map_for path bytes tree = if is_ignored tree then None else Some (map_text (marked path (instrumented path bytes tree)))
 
 -- ---- when each status is due; `told` is what the store holds, where it tells
 
@@ -65,7 +80,7 @@ IsDue other files told = (message : said.Message) × EndsWith other files told m
 
 -- ---- what the store holds
 
--- the text of a file stands below the folder
+-- the text of a file stands below the folder, and its map beside it; where it has none, that path holds what it held
 pub record Stands (out : List ℕ) (old new : Held) (file : List ℕ) : Type 0 where
   pub bytes : List ℕ
   pub tree : File
@@ -73,23 +88,31 @@ pub record Stands (out : List ℕ) (old new : Held) (file : List ℕ) : Type 0 w
   pub source : IsSource (Some old) file bytes tree
   pub is : IsTextOf file bytes tree text
   pub stands : new (path_below out file) ≡ Some text
+  pub map : new (map_below out file) ≡ option_or (map_for file bytes tree) (old (map_below out file))
 
--- the path isn't that of a file below the folder
+-- the path isn't that of a file below the folder, nor of its map
 abbrev pub IsApart : List ℕ → List ℕ → List ℕ → Type 0
-IsApart out path file = path ≢ path_below out file
+IsApart out path file = (path ≢ path_below out file) × (path ≢ map_below out file)
 
 -- the texts of all files stand there, and every other path holds what it held
 pub record PutsAll (out : List ℕ) (files : List (List ℕ)) (old new : Held) : Type 0 where
   pub stand : Each (Stands out old new) files
   pub others : (path : List ℕ) → Each (IsApart out path) files → new path ≡ old path
 
--- the put of a file failed: those before it stand there, its own path may hold anything, and every other path holds what it held
+-- of the puts of a file one failed: that of its text, and nothing was put beside it, or that of its map, and the text stands
+pub data PutsHalf (out : List ℕ) (old new : Held) (file : List ℕ) : Type 0 where
+  no_map : new (map_below out file) ≡ old (map_below out file) → PutsHalf out old new file
+  no_more : {bytes text : List ℕ} {tree : File} → IsSource (Some old) file bytes tree → IsTextOf file bytes tree text → new (path_below out file) ≡ Some text →
+      PutsHalf out old new file
+
+-- a put failed: the files before that one stand there, the path of what was put may hold anything, and every other path holds what it held
 pub record PutsSome (out : List ℕ) (files : List (List ℕ)) (old new : Held) : Type 0 where
   pub before : List (List ℕ)
   pub failed : List ℕ
   pub after : List (List ℕ)
   pub split : files ≡ before ++ failed ∷ after
   pub stand : Each (λ file. file ≢ failed → Stands out old new file) before
+  pub half : Each (λ file. file ≢ failed) before → PutsHalf out old new failed
   pub others : (path : List ℕ) → Each (IsApart out path) before → IsApart out path failed → new path ≡ old path
 
 -- want of memory may come before any put, and where no put was tried all is as it was

@@ -24,7 +24,7 @@ use Rattle.cov_run.specs.Loaded.{Loaded}
 use Rattle.cov_run.specs.Meant.{Means, IsMeant}
 use Rattle.cov_commands.specs.Coverage.{json_line}
 use Rattle.cov_commands.specs.Demo.{demo_source, demo_summary, demo_turns}
-use Rattle.cov_commands.specs.Instrument.{path_below}
+use Rattle.cov_commands.specs.Instrument.{map_below, path_below}
 use Rattle.cov_commands.specs.Line as said
 use Rattle.cov_commands.specs.Program.{GivesWay, IsDue, PrintsAll, PrintsOutput, Says, SaysLines, Stores}
 use Rattle.cov_commands.specs.Source.{ComesTo, said_of, status_of_end}
@@ -98,13 +98,13 @@ abbrev pub AreAmong : List (List ℕ) → Held → List Source → Type 0
 AreAmong files old [] = Unit {0}
 AreAmong files old (source ∷ sources) = (IsMember source.path files × (source.counted ≡ true) × (old source.path ≡ Some source.bytes)) × AreAmong files old sources
 
--- below the folder stands the text of each source, and where a comment takes it out the source itself
+-- below the folder stands the text of each source with its map, and where a comment takes it out the source itself
 pub data TheyStand (out : List ℕ) (new : Held) : List Source → List Instrumented → Type 0 where
   none : TheyStand out new [] []
   itself : {source : Source} {sources : List Source} {texts : List Instrumented} (tree : File) → Accepted source.bytes tree → is_left_out source tree ≡ true →
       new (path_below out source.path) ≡ Some source.bytes → TheyStand out new sources texts → TheyStand out new (source ∷ sources) texts
   its_text : {source : Source} {sources : List Source} {made : Instrumented} {texts : List Instrumented} → made.path ≡ source.path →
-      new (path_below out source.path) ≡ Some made.text → TheyStand out new sources texts → TheyStand out new (source ∷ sources) (made ∷ texts)
+      new (path_below out source.path) ≡ Some made.text → new (map_below out source.path) ≡ Some made.map → TheyStand out new sources texts → TheyStand out new (source ∷ sources) (made ∷ texts)
 
 pub record InstrumentsAsMeant (out : List ℕ) (sources : List Source) (new : Held) : Type 0 where
   pub texts : List Instrumented

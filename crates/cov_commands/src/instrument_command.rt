@@ -1,5 +1,6 @@
 ghost use Rattle.std.specs.Prelude.{◌≡◌, ◌≢◌, ℕ, List, Some};
 ghost use Rattle.cov_base.specs.Causes.{Rose};
+ghost use Rattle.cov_commands.specs.Instrument.{Each, IsSourcePath};
 ghost use Rattle.cov_words.specs.declared.command.Command.TheVariants.{Instrument};
 ghost use Rattle.cov_commands.specs.Program.{IsDue, Comes, Stores, CountsPuts, SaysFailedRead, SaysLines, SaysAtMost};
 
@@ -13,8 +14,8 @@ use cov_base::{Failed, Sink, Store};
 use items::Text;
 use std::alloc::Global;
 
-/// Puts the instrumented texts of the source files at these paths below a folder. All files are read before anything is put. A file
-/// that one of its comments takes out is put as it is.
+/// Puts the instrumented texts of the source files at these paths below a folder, and beside each its map. All files are read before
+/// anything is put. A file that one of its comments takes out is put as it is, without a map.
 pub fn on_instrument<S: Store, E: Sink>(
     alloc: Global,
     out: &str,
@@ -22,6 +23,8 @@ pub fn on_instrument<S: Store, E: Sink>(
     store: &mut S,
     err: &mut E,
 ) -> Status
+    requires { Each IsSourcePath files.now }
+
     ensures due { IsDue (Some (Instrument out.now files.now)) result (S.held store.old) }
     ensures comes { Comes (Some (Instrument out.now files.now)) result (S.held store.old) }
     ensures read_fault { result ≡ Status.ReadFault → Rose (S.read_faults store.old) (S.read_faults store.new) }

@@ -1,17 +1,18 @@
-// What is put for source files: their instrumented texts, or their own.
+// What is put for source files: their instrumented texts with their maps, or their own texts.
 ghost use Rattle.std.specs.Prelude.{◌≡◌, ◌<◌, ◌≤◌, ◌++◌, ◌∷◌, [], ℕ, List, true, length, Err, IfOk, IfErr, OnOk};
-ghost use Rattle.std.specs.Option.{unwrap_or};
+ghost use Rattle.std.specs.Option.{option_map, unwrap_or};
 ghost use Rattle.js_tree.specs.Tree.{plain_file};
 ghost use Rattle.js_scopes.specs.Accepted.{Accepted};
 ghost use Rattle.cov_base.specs.Causes.{Rose};
 ghost use Rattle.cov_run.specs.Loaded.{IsUnread, most};
 ghost use Rattle.cov_run.specs.declared.fault.LoadFault.TheVariants as fault;
-ghost use Rattle.cov_commands.specs.Instrument.{IsTextOf, StopsAt};
+ghost use Rattle.cov_commands.specs.Instrument.{IsTextOf, StopsAt, map_for};
+ghost use Rattle.cov_sim.specs.declared.instrumented.MappedText.{MappedText as Made};
 ghost use Rattle.cov_commands.specs.private.Written.{IsWritten, AreWritten};
 
 use cov_base::Store;
 use cov_run::{LoadFault, read_source};
-use cov_sim::{Source, text_for};
+use cov_sim::{MappedText, Source, text_for};
 use items::{Items, Memory, Text};
 use js_scopes::Checked;
 use std::alloc::Global;
@@ -26,6 +27,8 @@ pub(crate) struct Written {
     pub(crate) file: Text,
     /// What is put.
     pub(crate) text: Items<u8>,
+    /// The text of its map, where one is put beside it.
+    pub(crate) map: Option<Items<u8>>,
 }
 
 /// The file that ends the work, and why.
@@ -125,6 +128,7 @@ fn written_for(
     requires { Accepted text.now (plain_file tree) }
     ensures file { IfOk result (λ written. written.file ≡ file.now) }
     ensures text { IfOk result (λ written. IsTextOf file.now text.now (plain_file tree) written.text) }
+    ensures map { IfOk result (λ written. written.map ≡ map_for file.now text.now (plain_file tree)) }
 {
     let source = source_of(alloc, file, text.as_str().as_bytes())?;
     written_of(alloc, source, tree)
@@ -147,24 +151,28 @@ fn written_of(alloc: Global, source: Source, tree: Checked) -> Result<Written, M
     requires accepted { Accepted source.bytes (plain_file tree) }
     ensures file { IfOk result (λ written. written.file ≡ source.path) }
     ensures text { IfOk result (λ written. IsTextOf source.path source.bytes (plain_file tree) written.text) }
+    ensures map { IfOk result (λ written. written.map ≡ map_for source.path source.bytes (plain_file tree)) }
 {
-    let text = text_for(alloc, &source, tree)?;
-    Ok(written_as(source, text))
+    let made = text_for(alloc, &source, tree)?;
+    Ok(written_as(source, made))
 }
 
-/// What is put for a source that has this text, or none as a comment takes it out.
-fn written_as(source: Source, text: Option<Text>) -> Written
+/// What is put for a source that has this text with its map, or none as a comment takes it out.
+fn written_as(source: Source, made: Option<MappedText>) -> Written
     ensures file { result.file ≡ source.path }
-    ensures text { result.text ≡ unwrap_or text source.bytes }
+    ensures text { result.text ≡ unwrap_or (option_map (λ (m : Made). m.text) made) source.bytes }
+    ensures map { result.map ≡ option_map (λ (m : Made). m.map) made }
 {
-    match text {
-        Some(text) => Written {
+    match made {
+        Some(made) => Written {
             file: source.path,
-            text: Items::from_vec(text.into_string().into_bytes()),
+            text: Items::from_vec(made.text.into_string().into_bytes()),
+            map: Some(made.map),
         },
         None => Written {
             file: source.path,
             text: source.bytes,
+            map: None,
         },
     }
 }

@@ -6,7 +6,6 @@ use Rattle.std.specs.Str.{bytes_eq}
 use Rattle.std.proofs.lemmas.Iterator.Adapters.{position_from-zero}
 use Rattle.std.proofs.lemmas.Slice.Eq.{bytes_eq-Decides}
 use Rattle.js_tree.specs.Plain.{File}
-use Rattle.js_layout.specs.Layout.{layout}
 use Rattle.js_scopes.specs.Accepted.{Accepted}
 use Rattle.js_meaning.specs.declared.outcome.End.{End}
 use Rattle.js_meaning.specs.Program as program
@@ -18,7 +17,7 @@ use Rattle.cov_expected.specs.Expected.{expected}
 use Rattle.cov_sources.specs.declared.source.Source.{Source}
 use Rattle.cov_sim.specs.Counting.{RunsAs, itself, again}
 use Rattle.cov_sim.specs.Headline.{AreReplaced, no_file, kept, by_tree, file_of, Headline, HavePaths, zeros}
-use Rattle.cov_sim.specs.Instrumented.{instrumented, is_left_out, AreInstrumented, none, passed_over, counted, left, made}
+use Rattle.cov_sim.specs.Instrumented.{instrumented, instrumented_as, is_left_out, mapped_text, AreInstrumented, none, passed_over, counted, left, made}
 use Rattle.cov_sim.specs.declared.instrumented.Instrumented.{Instrumented}
 use Rattle.cov_run.specs.Exec.{program_of}
 use Rattle.cov_run.proofs.OneSession.{one_coverage}
@@ -62,8 +61,8 @@ one_file source file is sources rest more = by file.tree refl is.runs
     }
     by t same (again not_left reads) = record {
       files = file_of source is.tree true ∷ more.files;
-      texts = record { path = source.path; text = layout (instrumented source.path source.bytes is.tree) } ∷ more.texts;
-      instrumented = counted is.tree _ is.accepted (made not_left (record { tree = t; accepted = reads.accepted; same = reads.same })) more.instrumented;
+      texts = instrumented_as source (mapped_text source.path source.bytes is.tree) ∷ more.texts;
+      instrumented = counted is.tree (mapped_text source.path source.bytes is.tree) is.accepted (made not_left (record { tree = t; accepted = reads.accepted; same = reads.same })) more.instrumented;
       are = (is_file source is.tree true is.accepted not_left, more.are);
       stand = subst (λ f. AreReplaced (source ∷ sources) (file_of source is.tree true ∷ more.files) (f ∷ rest)) (sym (stands source file is.path is.uncounted same)) (by_tree is.tree t is.accepted not_left reads.same more.stand);
     }

@@ -17,7 +17,8 @@ use Rattle.cov_sources.specs.declared.source.Source.{Source}
 use Rattle.cov_sim.specs.declared.instrumented.Instrumented.{Instrumented}
 use Rattle.cov_sim.specs.Again.{IsReadAgain}
 use Rattle.cov_sim.specs.Instrumented as list
-use Rattle.cov_sim.specs.Instrumented.{instrumented, is_left_out, left, made, AreInstrumented}
+use Rattle.cov_sim.specs.Instrumented.{instrumented, is_left_out, Instruments, left, made, AreInstrumented}
+use Rattle.cov_sim.specs.declared.instrumented.MappedText.{MappedText}
 use Rattle.cov_sim.specs.Headline.{IsElsewhere, HavePaths, file_of, AreReplaced, no_file, kept, by_tree, AreRead, none, as_it_is, by_text, program_of, bytes_if, bytes_of, DoTheSame, Headline}
 
 -- ---- the texts can be read again
@@ -34,7 +35,7 @@ readable (list.passed_over {source = source} tree is (left out) are) =
     record { files = file_of source tree false ∷ r.files; again = file_of source tree false ∷ r.again; read = as_it_is tree is out r.read }
 readable (list.counted {source = source} tree text is (made in_ a) are) =
     let r = readable are in
-    record { files = file_of source tree true ∷ r.files; again = file_of source a.tree false ∷ r.again; read = by_text tree a.tree text is in_ a.accepted r.read }
+    record { files = file_of source tree true ∷ r.files; again = file_of source a.tree false ∷ r.again; read = by_text tree a.tree text.text text.map is in_ a.accepted r.read }
 
 -- ---- the program that counts
 
@@ -141,6 +142,13 @@ abbrev later_texts : List Instrumented → List Instrumented
 later_texts [] = []
 later_texts (one ∷ texts) = texts
 
+-- what a text that was made tells
+made_kept : (source : Source) (tree : File) (text : MappedText) → Instruments source tree (Some text) → is_left_out source tree ≡ false
+made_kept source tree _ (made in_ again) = in_
+
+made_again : (source : Source) (tree : File) (text : MappedText) → Instruments source tree (Some text) → IsReadAgain text.text (instrumented source.path source.bytes tree)
+made_again source tree _ (made in_ again) = again
+
 true_false : {b : Bool} → b ≡ true → b ≡ false → ⊥
 true_false t f = let z : true ≡ false = sym t ∙ f in cc
 
@@ -164,10 +172,10 @@ module _ (one_tree : TextHasOneTree) where
       AreReplaced sources files again
   trees_of none list.none e = no_file
   trees_of (as_it_is tree is out read) (list.passed_over one a left_out are) e = kept tree is out (trees_of read are e)
-  trees_of (as_it_is {source = source} tree is out read) (list.counted one text a (made in_ again) are) e = absurd (in_and_out source is a out in_)
-  trees_of (by_text {source = source} tree other text is in_ again read) (list.passed_over one a (left out) are) e = absurd (in_and_out source a is out in_)
-  trees_of (by_text {source = source} tree other text is in_ again read) (list.counted one same_text a (made on text_again) are) e =
-      by_tree tree other is in_ (text_same source one tree other same_text a is text_again (subst (λ t. AcceptedAgain t other) (ap first_text e) again)) (trees_of read are (ap later_texts e))
+  trees_of (as_it_is {source = source} tree is out read) (list.counted one text a is_there are) e = absurd (in_and_out source is a out (made_kept source one text is_there))
+  trees_of (by_text {source = source} tree other text map is in_ again read) (list.passed_over one a (left out) are) e = absurd (in_and_out source a is out in_)
+  trees_of (by_text {source = source} tree other text map is in_ again read) (list.counted one same_text a is_there are) e =
+      by_tree tree other is in_ (text_same source one tree other same_text.text a is (made_again source one same_text is_there) (subst (λ t. AcceptedAgain t other) (ap first_text e) again)) (trees_of read are (ap later_texts e))
 
   pub headline : RunsReplaced → Headline
   headline runs sources texts paths are =

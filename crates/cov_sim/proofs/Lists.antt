@@ -3,10 +3,11 @@ use Rattle.std.proofs.Common.{◌≡◌, ℕ, suc, ◌+◌, ◌<◌, List, [], �
 use Rattle.std.proofs.lemmas.List.{take_more}
 use Rattle.js_tree.specs.Plain.{File}
 use Rattle.js_scopes.specs.Accepted.{Accepted}
-use Rattle.cov_sim.specs.Instrumented.{with_text, Instruments, AreInstrumented, none, passed_over, counted}
+use Rattle.cov_sim.specs.Instrumented.{instrumented_as, with_text, Instruments, AreInstrumented, none, passed_over, counted}
 use Rattle.cov_sim.specs.Refused.{AreAccepted}
 use Rattle.cov_sources.specs.declared.source.Source.{Source}
 use Rattle.cov_sim.specs.declared.instrumented.Instrumented.{Instrumented}
+use Rattle.cov_sim.specs.declared.instrumented.MappedText.{MappedText}
 
 -- a source more that isn't counted
 pub one_passed : {sources : List Source} {list : List Instrumented} (source : Source) (tree : File) → AreInstrumented sources list → Accepted source.bytes tree →
@@ -16,13 +17,13 @@ one_passed source tree (passed_over other before out are) accepted is = passed_o
 one_passed source tree (counted other text before is_there are) accepted is = counted other text before is_there (one_passed source tree are accepted is)
 
 -- a source more that is
-pub one_counted : {sources : List Source} {list : List Instrumented} (source : Source) (tree : File) (text : List ℕ) → AreInstrumented sources list → Accepted source.bytes tree →
-    Instruments source tree (Some text) → AreInstrumented (sources ++ source ∷ []) (list ++ record { path = source.path; text = text } ∷ [])
+pub one_counted : {sources : List Source} {list : List Instrumented} (source : Source) (tree : File) (text : MappedText) → AreInstrumented sources list → Accepted source.bytes tree →
+    Instruments source tree (Some text) → AreInstrumented (sources ++ source ∷ []) (list ++ instrumented_as source text ∷ [])
 one_counted source tree text none accepted is = counted tree text accepted is none
 one_counted source tree text (passed_over other before out are) accepted is = passed_over other before out (one_counted source tree text are accepted is)
 one_counted source tree text (counted other first before is_there are) accepted is = counted other first before is_there (one_counted source tree text are accepted is)
 
-pub one_more : {sources : List Source} {list : List Instrumented} (source : Source) (tree : File) (text : Option (List ℕ)) → AreInstrumented sources list → Accepted source.bytes tree →
+pub one_more : {sources : List Source} {list : List Instrumented} (source : Source) (tree : File) (text : Option MappedText) → AreInstrumented sources list → Accepted source.bytes tree →
     Instruments source tree text → AreInstrumented (sources ++ source ∷ []) (with_text source text list)
 one_more source tree None are accepted is = one_passed source tree are accepted is
 one_more source tree (Some text) are accepted is = one_counted source tree text are accepted is

@@ -49,10 +49,10 @@ pub data AreRead : List Source → List Instrumented → (files again : List pro
   as_it_is : {source : Source} {sources : List Source} {texts : List Instrumented} {files again : List program.Source} (tree : File) →
       Accepted source.bytes tree → is_left_out source tree ≡ true →
       AreRead sources texts files again → AreRead (source ∷ sources) texts (file_of source tree false ∷ files) (file_of source tree false ∷ again)
-  by_text : {source : Source} {sources : List Source} {texts : List Instrumented} {files again : List program.Source} (tree other : File) (text : List ℕ) →
+  by_text : {source : Source} {sources : List Source} {texts : List Instrumented} {files again : List program.Source} (tree other : File) (text map : List ℕ) →
       Accepted source.bytes tree → is_left_out source tree ≡ false → AcceptedAgain text other →
       AreRead sources texts files again →
-      AreRead (source ∷ sources) (record { path = source.path; text = text } ∷ texts) (file_of source tree true ∷ files) (file_of source other false ∷ again)
+      AreRead (source ∷ sources) (record { path = source.path; text = text; map = map } ∷ texts) (file_of source tree true ∷ files) (file_of source other false ∷ again)
 
 abbrev pub program_of : List program.Source → program.Sources
 program_of files = record { files = files; prelude = prelude_tree }

@@ -1,4 +1,4 @@
--- The texts of the sources that are counted.
+-- The texts of the sources that are counted, and their maps.
 use Rattle.std.specs.Prelude.{◌≡◌, ℕ, Bool, not, ◌||◌, true, false, List, [], ◌∷◌, ◌++◌, Option, Some, None}
 use Rattle.serde_json.specs.Data.{Data}
 use Rattle.js_tree.specs.Comments.{ignores_file}
@@ -14,8 +14,11 @@ use Rattle.cov_maps.specs.Zero.{zero_file}
 use Rattle.cov_object.specs.Json.{file_data}
 use Rattle.cov_preamble.specs.Name.{cov_name}
 use Rattle.cov_rewritten.specs.Whole.{rewritten}
+use Rattle.source_map.specs.Write.{map_text}
+use Rattle.printed_map.specs.Marked.{marked}
 use Rattle.cov_sources.specs.declared.source.Source.{Source}
 use Rattle.cov_sim.specs.Again.{IsReadAgain}
+use Rattle.cov_sim.specs.declared.instrumented.MappedText.{MappedText}
 use Rattle.cov_sim.specs.declared.instrumented.Instrumented.{Instrumented}
 
 -- the name of its function, and the coverage that it begins with
@@ -40,23 +43,33 @@ is_ignored tree = ignores_file (comments_of tree)
 abbrev pub is_left_out : Source → File → Bool
 is_left_out source tree = not source.counted || is_ignored tree
 
--- a source of this tree has this text, which is read again, or none as it isn't counted
-pub data Instruments (source : Source) (tree : File) : Option (List ℕ) → Type 0 where
+-- the text of that tree, and the text of the map that leads from it back to the file
+abbrev pub mapped_text : (path bytes : List ℕ) → File → MappedText
+mapped_text path bytes tree = record {
+  text = layout (instrumented path bytes tree);
+  map = map_text (marked path (instrumented path bytes tree));
+}
+
+-- a source of this tree has this text with its map, which is read again, or none as it isn't counted
+pub data Instruments (source : Source) (tree : File) : Option MappedText → Type 0 where
   left : is_left_out source tree ≡ true → Instruments source tree None
   made : is_left_out source tree ≡ false → IsReadAgain (layout (instrumented source.path source.bytes tree)) (instrumented source.path source.bytes tree) →
-      Instruments source tree (Some (layout (instrumented source.path source.bytes tree)))
+      Instruments source tree (Some (mapped_text source.path source.bytes tree))
+
+abbrev pub instrumented_as : Source → MappedText → Instrumented
+instrumented_as source mapped = record { path = source.path; text = mapped.text; map = mapped.map }
 
 -- each source is accepted; the list has those that are counted, in their order
 pub data AreInstrumented : List Source → List Instrumented → Type 0 where
   none : AreInstrumented [] []
   passed_over : {source : Source} {sources : List Source} {list : List Instrumented} (tree : File) → Accepted source.bytes tree → Instruments source tree None →
       AreInstrumented sources list → AreInstrumented (source ∷ sources) list
-  counted : {source : Source} {sources : List Source} {list : List Instrumented} (tree : File) (text : List ℕ) → Accepted source.bytes tree → Instruments source tree (Some text) →
-      AreInstrumented sources list → AreInstrumented (source ∷ sources) (record { path = source.path; text = text } ∷ list)
+  counted : {source : Source} {sources : List Source} {list : List Instrumented} (tree : File) (mapped : MappedText) → Accepted source.bytes tree → Instruments source tree (Some mapped) →
+      AreInstrumented sources list → AreInstrumented (source ∷ sources) (instrumented_as source mapped ∷ list)
 
 -- ---- for private clauses
 
 -- a list with the text of a source, where it has one
-abbrev pub with_text : Source → Option (List ℕ) → List Instrumented → List Instrumented
+abbrev pub with_text : Source → Option MappedText → List Instrumented → List Instrumented
 with_text source None list = list
-with_text source (Some text) list = list ++ record { path = source.path; text = text } ∷ []
+with_text source (Some mapped) list = list ++ instrumented_as source mapped ∷ []

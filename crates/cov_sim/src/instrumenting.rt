@@ -2,30 +2,33 @@ ghost use Rattle.std.specs.Prelude.{◌≡◌, ◌≢◌, ◌≤◌, length, IfO
 ghost use Rattle.js_tree.specs.Plain as plain;
 ghost use Rattle.js_tree.specs.Tree.{plain_file};
 ghost use Rattle.js_text.specs.Limits.{again_limits};
-ghost use Rattle.js_layout.specs.Layout.{layout};
+ghost use Rattle.js_layout.specs.Layout.{layout, marks};
 ghost use Rattle.js_scopes.specs.Accepted.{Accepted};
-ghost use Rattle.cov_sim.specs.Instrumented.{instrumented, is_left_out, with_text, Instruments, AreInstrumented};
+ghost use Rattle.cov_sim.specs.Instrumented.{instrumented, is_left_out, mapped_text, with_text, Instruments, AreInstrumented};
 ghost use Rattle.cov_sim.specs.Again.{IsReadAgain};
 ghost use Rattle.cov_sources.specs.Refused.{IsRefused};
 ghost use Rattle.cov_sim.specs.Refused.{RefusesFirst};
 ghost use Rattle.cov_sim.specs.declared.fault.InstrumentFault.TheVariants.{Memory as OutOfMemory};
 
 use crate::fault::InstrumentFault;
-use crate::instrumented::Instrumented;
+use crate::instrumented::{Instrumented, MappedText};
 use cov_hash::hash_of;
 use cov_hints::ignores_file;
 use cov_rewrite::rewrite;
 use cov_sources::{Source, Sources, Why, accept};
-use items::{Memory, Text};
-use js_print::print;
+use items::{Items, Memory, Text};
+use js_print::{Printed, print};
 use js_scopes::Checked;
 use js_text::Limits;
 use js_tree::File;
+use printed_map::map_of;
+use source_map::write;
 use std::alloc::{AllocError, Global};
 
 /// The instrumented texts of the sources that are counted and that no comment takes out, in their
-/// order. Each is read again as the instrumented tree, within the limits of such texts. All sources
-/// are read; the first that isn't accepted is told. Only want of memory may come besides.
+/// order, each with its map. Each is read again as the instrumented tree, within the limits of such
+/// texts. All sources are read; the first that isn't accepted is told. Only want of memory may come
+/// besides.
 pub fn instrument_all(
     alloc: Global,
     sources: &Sources,
@@ -75,15 +78,19 @@ fn add(
     alloc: Global,
     list: &mut Vec<Instrumented>,
     source: &Source,
-    text: Option<Text>,
+    text: Option<MappedText>,
 ) -> Result<(), Memory>
     ensures { OnOk result (list.new.items ≡ with_text source.now text list.old.items) }
 {
     match text {
         None => Ok(()),
-        Some(text) => {
+        Some(made) => {
             let path = Text::from_str(alloc, source.path.as_str())?;
-            list.push(Instrumented { path, text })?;
+            list.push(Instrumented {
+                path,
+                text: made.text,
+                map: made.map,
+            })?;
             Ok(())
         }
     }
@@ -96,38 +103,64 @@ pub(crate) fn is_left(source: &Source, file: &File) -> bool
     !source.counted || ignores_file(file)
 }
 
-/// The text of a source that is accepted, where it is counted and no comment takes it out, as
-/// `instrument_all` gives it. Want of memory is the only error.
-pub fn text_for(alloc: Global, source: &Source, file: Checked) -> Result<Option<Text>, Memory>
+/// The text of a source that is accepted, with its map, where the source is counted and no comment
+/// takes it out, as `instrument_all` gives them. Want of memory is the only error.
+pub fn text_for(alloc: Global, source: &Source, file: Checked) -> Result<Option<MappedText>, Memory>
     requires { Accepted source.now.bytes (plain_file file) }
     ensures { IfOk result (λ text. Instruments source.now (plain_file file) text) }
 {
     if is_left(source, file.file()) {
         return Ok(None);
     }
-    let text = text_of(alloc, source, file)?;
-    Ok(Some(text))
+    let made = mapped_text_of(alloc, source, file)?;
+    Ok(Some(made))
 }
 
-// The text of a source that is counted.
+// The text of a source that is counted, with its map.
+fn mapped_text_of(alloc: Global, source: &Source, file: Checked) -> Result<MappedText, Memory>
+    requires { Accepted source.now.bytes (plain_file file) }
+    ensures made { IfOk result (λ made. made ≡ mapped_text source.now.path source.now.bytes (plain_file file)) }
+    ensures again { IfOk result (λ made. IsReadAgain made.text (instrumented source.now.path source.now.bytes (plain_file file))) }
+{
+    let printed = printed_of(alloc, source, file)?;
+    let map = map_of(alloc, source.path.as_str(), printed.marks.as_slice())?;
+    let bytes = write(alloc, &map)?;
+    Ok(MappedText {
+        text: printed.bytes,
+        map: Items::from_vec(bytes),
+    })
+}
+
+// The text alone.
 pub(crate) fn text_of(alloc: Global, source: &Source, file: Checked) -> Result<Text, Memory>
     requires { Accepted source.now.bytes (plain_file file) }
     ensures text { IfOk result (λ text. text ≡ layout (instrumented source.now.path source.now.bytes (plain_file file))) }
     ensures again { IfOk result (λ text. IsReadAgain text (instrumented source.now.path source.now.bytes (plain_file file))) }
 {
-    let hash = hash_of(alloc, source.bytes.as_slice())?;
-    let tree = rewrite(alloc, source.path.as_str(), hash.as_str(), file)?;
-    let text = short(print(alloc, &tree)?.bytes)?;
-    Ok(text)
+    let printed = printed_of(alloc, source, file)?;
+    Ok(printed.bytes)
 }
 
-// A text, within the limits of what is read again: a longer one is want of memory.
-fn short(text: Text) -> Result<Text, Memory>
-    ensures same { IfOk result (λ answer. answer ≡ text) }
-    ensures within { IfOk result (λ answer. length answer ≤ again_limits.bytes) }
+// What a source that is counted is printed as, once it is instrumented.
+fn printed_of(alloc: Global, source: &Source, file: Checked) -> Result<Printed, Memory>
+    requires { Accepted source.now.bytes (plain_file file) }
+    ensures text { IfOk result (λ printed. printed.bytes ≡ layout (instrumented source.now.path source.now.bytes (plain_file file))) }
+    ensures marks { IfOk result (λ printed. printed.marks ≡ marks (instrumented source.now.path source.now.bytes (plain_file file))) }
+    ensures again { IfOk result (λ printed. IsReadAgain printed.bytes (instrumented source.now.path source.now.bytes (plain_file file))) }
 {
-    if text.as_str().len() as u64 > Limits::again().bytes {
+    let hash = hash_of(alloc, source.bytes.as_slice())?;
+    let tree = rewrite(alloc, source.path.as_str(), hash.as_str(), file)?;
+    let printed = short(print(alloc, &tree)?)?;
+    Ok(printed)
+}
+
+// What has a text within the limits of what is read again: a longer one is want of memory.
+fn short(printed: Printed) -> Result<Printed, Memory>
+    ensures same { IfOk result (λ answer. answer ≡ printed) }
+    ensures within { IfOk result (λ answer. length answer.bytes ≤ again_limits.bytes) }
+{
+    if printed.bytes.as_str().len() as u64 > Limits::again().bytes {
         return Err(AllocError);
     }
-    Ok(text)
+    Ok(printed)
 }

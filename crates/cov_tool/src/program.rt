@@ -19,7 +19,7 @@ use std::alloc::Global;
 /// it, and LF; `exec [--turns N] FILE` runs it and prints what it prints, and where the run ends
 /// otherwise than done, that is said after it; `run [--turns N] [--out P] [--exclude GLOBS] ENTRY` does
 /// the same by the instrumented texts, and puts the JSON of the coverage and LF at P. `instrument --out DIR FILE..` is on source files: it
-/// puts the instrumented text of each below DIR. Three are on coverage files, which are read and merged
+/// puts the instrumented text of each below DIR, and its map beside it. Three are on coverage files, which are read and merged
 /// one after another: `merge --out P FILE..` puts their JSON and LF at P, `report [--reporter R]
 /// FILE..` prints a report, and `check [--lines N] [--statements N] [--branches N] [--functions N]
 /// FILE..` says which percentages are below their thresholds. `v8 --out P FILE..` is on V8's coverage

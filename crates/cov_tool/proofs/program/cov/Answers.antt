@@ -1,8 +1,9 @@
 -- Each clause from what the words ask.
-use Rattle.std.proofs.Common.{rules, ◌≡◌, Global, Some, None, map, string_bytes, refl, subst, sym}
-use Rattle.cov_words.specs.Laws.{IsWithin}
+use Rattle.std.proofs.Common.{rules, ◌≡◌, ℕ, List, [], ◌∷◌, Global, Some, None, map, string_bytes, refl, subst, sym}
+use Rattle.cov_words.specs.Laws.{AreSourcePaths, IsWithin}
 use Rattle.cov_words.specs.Words as asked
 use Rattle.cov_words.specs.declared.command.Command.TheVariants.{Help, OnSource, Instrument, OnCoverage, OnV8}
+use Rattle.cov_commands.specs.Instrument.{Each, IsSourcePath}
 use Rattle.cov_commands.specs.Meant.{DoesByMeaning}
 use Rattle.cov_commands.specs.Program.{PrintsPrefix, SaysAtMost, SaysLines}
 use Rattle.cov_commands.proofs.Stands.{complained, memory_is_said, usage_is_said, says_at_most, prints_nothing, stores_nothing, counts_no_puts}
@@ -54,6 +55,16 @@ returns-in-Some-OnSource-clause-says g c = λ other.
     let some : Some (OnSource c.in-Some-OnSource.task c.as_str.result.now) ≡ asked.command_of (map (string_bytes {Z = Global}) c.args.words.now) = search rules in
     subst (λ what. SaysLines what c.on_source.result (g.S.Store.held c.args.store.now) (g.E.Sink.taken c.args.err.now) (g.E.Sink.taken c.on_source.new.err) (g.E.Sink.faults c.args.err.now) (g.E.Sink.faults c.on_source.new.err)) some (c.on_source.ensures.says other)
 
+-- the files are source paths
+each_path : (files : List (List ℕ)) → AreSourcePaths files → Each IsSourcePath files
+each_path [] are = tt
+each_path (file ∷ files) are = (are.0, each_path files are.1)
+
+pub on_instrument-requires : goal.on_instrument-requires
+on_instrument-requires g c =
+    let some : Some (Instrument c.as_str-in-Some-Instrument.result.now c.as_slice.result.now) ≡ asked.command_of (map (string_bytes {Z = Global}) c.args.words.now) = search rules in
+    each_path c.as_slice.result.now (subst IsWithin (sym some) (c.plain_words.ensures.asks_within (map (string_bytes {Z = Global}) c.args.words.now)))
+
 pub returns-in-Some-Instrument-clause-says : goal.returns-in-Some-Instrument-clause-says
 returns-in-Some-Instrument-clause-says g c = λ other.
     let some : Some (Instrument c.as_str-in-Some-Instrument.result.now c.as_slice.result.now) ≡ asked.command_of (map (string_bytes {Z = Global}) c.args.words.now) = search rules in
@@ -97,4 +108,4 @@ returns-in-Some-Instrument-clause-meant g c =
     (c.by_meaning.ensures.acts (Some (Instrument c.as_str-in-Some-Instrument.result.now c.as_slice.result.now)) c.on_instrument.result (g.S.Store.held c.args.store.now) (g.S.Store.held c.on_instrument.new.store)
     (g.O.Sink.taken c.args.out.now) (g.O.Sink.taken c.args.out.now)
     (g.E.Sink.taken c.args.err.now) (g.E.Sink.taken c.on_instrument.new.err) (g.E.Sink.faults c.args.err.now) (g.E.Sink.faults c.on_instrument.new.err)
-    tt e.due (λ all. refl) e.stores e.says)
+    (subst IsWithin (sym some) (c.plain_words.ensures.asks_within (map (string_bytes {Z = Global}) c.args.words.now))) e.due (λ all. refl) e.stores e.says)

@@ -6,7 +6,8 @@ use Rattle.js_tree.specs.Tree.{plain_file}
 use Rattle.js_walk.specs.Constructs.{constructs_file}
 use Rattle.js_text.specs.Limits.{again_limits}
 use Rattle.js_reading.proofs.PlacedTexts.{reads_placed}
-use Rattle.js_layout.specs.Layout.{layout}
+use Rattle.js_layout.specs.Layout.{layout, marks}
+use Rattle.js_print.specs.declared.printed.Printed.{Printed}
 use Rattle.cov_hash.specs.Hash.{hash_text}
 use Rattle.cov_maps.specs.Zero.{zero_file}
 use Rattle.cov_object.specs.Json.{file_data}
@@ -14,7 +15,7 @@ use Rattle.cov_rewritten.specs.Whole.{rewritten}
 use Rattle.cov_sim.specs.Again.{IsReadAgain}
 use Rattle.cov_sim.specs.Instrumented.{own_name, instrumented}
 use Rattle.cov_sim.proofs.Spelt.{reads_sources}
-use Rattle.cov_sim.proofs.instrumenting.text_of.Goals as goal
+use Rattle.cov_sim.proofs.instrumenting.printed_of.Goals as goal
 
 pub rewrite-requires : goal.rewrite-requires
 rewrite-requires c = reads_placed c.args.source.now.bytes (plain_file c.args.file) c.requires.reads
@@ -28,9 +29,12 @@ returns c =
     let tree = plain_file c.args.file in
     let path : c.as_str.result.now ≡ source.path = search rules in
     let hash : c.as_str-2.result.now ≡ hash_text source.bytes = search rules in
-    let text = c.in_ok-text.ensures.same ∙ c.in_ok-print.ensures.bytes ∙ ap layout (c.in_ok-tree.ensures ∙ ap₂ (λ (p h : List ℕ). with_hash p h tree) path hash) in
-    let within = subst (λ text. length text ≤ again_limits.bytes) text c.in_ok-text.ensures.within in
+    let same = c.in_ok-tree.ensures ∙ ap₂ (λ (p h : List ℕ). with_hash p h tree) path hash in
+    let printed = c.in_ok-printed.ensures.same in
+    let text = ap (λ (p : Printed). p.bytes) printed ∙ c.in_ok-print.ensures.bytes ∙ ap layout same in
+    let within = subst (λ text. length text ≤ again_limits.bytes) text c.in_ok-printed.ensures.within in
     record {
       text = text;
+      marks = ap (λ (p : Printed). p.marks) printed ∙ c.in_ok-print.ensures.marks ∙ ap marks same;
       again = subst (λ text. IsReadAgain text (instrumented source.path source.bytes tree)) (sym text) (reads_sources source.path source.bytes tree c.requires (subst IsUtf8 path c.as_str.utf8) within);
     }
