@@ -18,7 +18,7 @@ use Rattle.cov_object.proofs.DigitIds.{id_of-decimal}
 less : (a b : ℕ) → a < b → nat_cmp a b ≡ Less
 less a b h = sym (nat_cmp_is a b Less h)
 
-same : (a b : ℕ) → a ≡ b → nat_cmp a b ≡ Equal
+pub same : (a b : ℕ) → a ≡ b → nat_cmp a b ≡ Equal
 same a b h = sym (nat_cmp_is a b Equal h)
 
 more : (a b : ℕ) → b < a → nat_cmp a b ≡ Greater
@@ -53,7 +53,7 @@ module _ {X : Type 0} where
   swap-cases es a b x y apart (inr (inr p)) = sym (swap-less es b a y x p)
 
   -- two with different ids may go in either way round
-  swap : (es : List (ℕ × X)) (a b : ℕ) (x y : X) → (a ≡ b → ⊥) → insert (insert es a x) b y ≡ insert (insert es b y) a x
+  pub swap : (es : List (ℕ × X)) (a b : ℕ) (x y : X) → (a ≡ b → ⊥) → insert (insert es a x) b y ≡ insert (insert es b y) a x
   swap es a b x y apart = swap-cases es a b x y apart (cases_order a b)
 
   -- what comes before all others goes first
@@ -62,7 +62,7 @@ module _ {X : Type 0} where
   first id x (e ∷ es) below = ap (λ o. match_ordering o ((id, x) ∷ e ∷ es) ((e.0, x) ∷ es) (e ∷ insert es id x)) below.0
 
 -- no member has this id
-abbrev Apart : ℕ → Members → Type 0
+abbrev pub Apart : ℕ → Members → Type 0
 Apart id no_members = Unit {0}
 Apart id (member key value rest) = (id_of key ≡ Some id → ⊥) × Apart id rest
 

@@ -1,11 +1,13 @@
 pub mod BranchLemmas
 pub mod ByFile
+pub mod ByMember
 pub mod Files
 pub mod DataForms
 pub mod DigitIds
 pub mod EscapeLemmas
 pub mod IdOrder
 pub mod JsonValue
+pub mod KeptIds
 pub mod Numbers
 pub mod OrderLemmas
 pub mod PieceLemmas

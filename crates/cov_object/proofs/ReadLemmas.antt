@@ -1,41 +1,12 @@
--- What is read, a member or an entry at a time.
-use Rattle.std.proofs.Common.{◌≡◌, ℕ, suc, Bool, true, false, ◌&&◌, ◌+◌, ◌<◌, ◌≤◌, ◌==◌, min, length, drop, get_or, arith, length-drop, append-nil, List, [], ◌∷◌, ◌++◌, map, Option, Some, None, Vec, IfSome, subst, option_map, option_and_then, Result, Ok, Err, refl, sym, ap, ◌∙◌}
-use Rattle.std.specs.Borrow.{Bor}
-use Rattle.std.specs.Ordering.{nat_cmp, match_ordering}
-use Rattle.std.specs.declared.cmp.Ordering.{Ordering}
-use Rattle.std.specs.declared.cmp.Ordering.TheVariants.{Less, Equal, Greater}
-use Rattle.std.specs.BTreeMap.{insert_entry}
+-- What is read, an entry at a time.
+use Rattle.std.proofs.Common.{◌≡◌, ℕ, suc, Bool, true, false, ◌&&◌, ◌+◌, ◌<◌, ◌≤◌, ◌==◌, min, length, drop, get_or, arith, length-drop, append-nil, append_assoc, List, [], ◌∷◌, ◌++◌, map, Option, Some, None, subst, option_map, option_and_then, Result, Ok, Err, refl, sym, ap, ◌∙◌}
+use Rattle.std.specs.Ordering.{nat_cmp}
 use Rattle.std.specs.List.Sorted.{IsStrictlySortedBy}
-use Rattle.cov_object.specs.Numbered.{Ascends}
-use Rattle.std.proofs.Math.Dec.{eqb-suc-zero, eqb-zero-suc, eqb-suc-suc}
 use Rattle.std.proofs.lemmas.List.{at_drop_more}
-use Rattle.serde_json.specs.Data.{Data, no_items, Members, member}
-use Rattle.serde_json.specs.View.{view, items_view}
-use Rattle.serde_json.specs.declared.value.Value.{Value}
+use Rattle.cov_object.specs.Numbered.{Ascends}
 use Rattle.cov_object.specs.declared.file.PathCoverage.{PathCoverage}
-use Rattle.cov_object.specs.Read.{count_of, items_fit, path_with, paths_counted, all_fit, described, thing_with, all_counted, id_of, by_id}
-
--- lent values beside their ids, as their data
-abbrev pub seen : List (ℕ × Bor Value) → List (ℕ × Data)
-seen entries = map (λ entry. (entry.0, view entry.1.now)) entries
-
-seen-match : (o : Ordering) (xs ys zs : List (ℕ × Bor Value)) → seen (match_ordering o xs ys zs) ≡ match_ordering o (seen xs) (seen ys) (seen zs)
-seen-match Less xs ys zs = refl
-seen-match Equal xs ys zs = refl
-seen-match Greater xs ys zs = refl
-
-seen-insert : (es : List (ℕ × Bor Value)) (id : ℕ) (value : Bor Value) → seen (insert_entry nat_cmp es id value) ≡ insert_entry nat_cmp (seen es) id (view value.now)
-seen-insert [] id value = refl
-seen-insert (e ∷ es) id value =
-    seen-match (nat_cmp id e.0) ((id, value) ∷ e ∷ es) ((e.0, value) ∷ es) (e ∷ insert_entry nat_cmp es id value)
-    ∙ ap (λ rest. match_ordering (nat_cmp id e.0) ((id, view value.now) ∷ seen (e ∷ es)) ((e.0, view value.now) ∷ seen es) ((e.0, view e.1.now) ∷ rest)) (seen-insert es id value)
-
--- one member more was found
-pub by_id-more : (es others : List (ℕ × Bor Value)) (key : List ℕ) (value : Bor Value) (id : ℕ) (rest : Members) → id_of key ≡ Some id → others ≡ insert_entry nat_cmp es id value →
-    by_id rest (seen others) ≡ by_id (member key (view value.now) rest) (seen es)
-by_id-more es others key value id rest is put =
-    ap (by_id rest) (ap seen put ∙ seen-insert es id value)
-    ∙ sym (ap (option_and_then (λ n. by_id rest (insert_entry nat_cmp (seen es) n (view value.now)))) is)
+use Rattle.cov_object.specs.Read.{all_fit, thing_with, all_counted}
+use Rattle.cov_object.specs.private.ByMember.{paths_with, all_told}
 
 -- ---- lists that grow at their end
 
@@ -48,37 +19,28 @@ module _ {T E : Type 0} where
 -- ---- the counts of paths
 
 -- without counts no path is counted
-pub paths_counted-none : (paths : List PathCoverage) → paths_counted 0 paths no_items ≡ Ok []
-paths_counted-none [] = refl
-paths_counted-none (path ∷ paths) = refl
-
--- a count for each path
-pub items_fit-lengths : (paths : List PathCoverage) (values : List Value) → items_fit paths (items_view values) ≡ (length values == length paths)
-items_fit-lengths [] [] = refl
-items_fit-lengths [] (value ∷ values) = sym (eqb-suc-zero (length values))
-items_fit-lengths (path ∷ paths) [] = sym (eqb-zero-suc (length paths))
-items_fit-lengths (path ∷ paths) (value ∷ values) = items_fit-lengths paths values ∙ sym (eqb-suc-suc (length values) (length paths))
+pub paths_with-none : (paths : List PathCoverage) → paths_with 0 paths [] ≡ Ok []
+paths_with-none [] = refl
+paths_with-none (path ∷ paths) = refl
 
 -- a count that is none is the answer
-pub paths_counted-stop : (done : List PathCoverage) (place : ℕ) (paths : List PathCoverage) (values : List Value) (path : PathCoverage) (value : Value) →
-    place < length paths → place < length values → get_or values place value ≡ value → None ≡ count_of (view value) →
-    before done (paths_counted place (drop place paths) (items_view (drop place values))) ≡ Err place
-paths_counted-stop done place paths values path value in_paths in_values here none =
-    at_drop_more (λ ps. before done (paths_counted place ps (items_view (drop place values)))) paths place path in_paths
-    ∙ at_drop_more (λ vs. before done (paths_counted place (get_or paths place path ∷ drop (place + 1) paths) (items_view vs))) values place value in_values
-    ∙ ap (λ v. before done (paths_counted place (get_or paths place path ∷ drop (place + 1) paths) (items_view (v ∷ drop (place + 1) values)))) here
-    ∙ ap (λ n. before done (path_with place (get_or paths place path) n (paths_counted (place + 1) (drop (place + 1) paths) (items_view (drop (place + 1) values))))) (sym none)
+pub paths_with-stop : (done : List PathCoverage) (place : ℕ) (paths : List PathCoverage) (counts : List (Option ℕ)) (path : PathCoverage) →
+    place < length paths → place < length counts → get_or counts place None ≡ None → before done (paths_with place (drop place paths) (drop place counts)) ≡ Err place
+paths_with-stop done place paths counts path in_paths in_counts none =
+    at_drop_more (λ ps. before done (paths_with place ps (drop place counts))) paths place path in_paths
+    ∙ at_drop_more (λ cs. before done (paths_with place (get_or paths place path ∷ drop (place + 1) paths) cs)) counts place None in_counts
+    ∙ ap (λ c. before done (paths_with place (get_or paths place path ∷ drop (place + 1) paths) (c ∷ drop (place + 1) counts))) none
 
-nothing_left : (place : ℕ) (paths : List PathCoverage) (values : List Value) → min (length paths) (length values) ≡ 0 → paths_counted place paths (items_view values) ≡ Ok []
-nothing_left place [] values none = refl
+nothing_left : (place : ℕ) (paths : List PathCoverage) (counts : List (Option ℕ)) → min (length paths) (length counts) ≡ 0 → paths_with place paths counts ≡ Ok []
+nothing_left place [] counts none = refl
 nothing_left place (path ∷ paths) [] none = refl
-nothing_left place (path ∷ paths) (value ∷ values) none = absurd (omega arith)
+nothing_left place (path ∷ paths) (count ∷ counts) none = absurd (omega arith)
 
 -- after the last path or the last count nothing is left
-pub paths_counted-end : (done : List PathCoverage) (place : ℕ) (paths : List PathCoverage) (values : List Value) → min (length paths) (length values) ≤ place →
-    before done (paths_counted place (drop place paths) (items_view (drop place values))) ≡ Ok done
-paths_counted-end done place paths values over =
-    ap (before done) (nothing_left place (drop place paths) (drop place values) (omega (arith, length-drop place paths, length-drop place values)))
+pub paths_with-end : (done : List PathCoverage) (place : ℕ) (paths : List PathCoverage) (counts : List (Option ℕ)) → min (length paths) (length counts) ≤ place →
+    before done (paths_with place (drop place paths) (drop place counts)) ≡ Ok done
+paths_with-end done place paths counts over =
+    ap (before done) (nothing_left place (drop place paths) (drop place counts) (omega (arith, length-drop place paths, length-drop place counts)))
     ∙ ap (λ ps. Ok ps) (append-nil done)
 
 -- ---- things and their counts
@@ -89,33 +51,48 @@ never true false = refl
 never false b = refl
 
 -- lists of different lengths don't fit
-pub all_fit-unlike : {T : Type 0} (fits : T → Data → Bool) (things : List (ℕ × T)) (counts : List (ℕ × Bor Value)) → (length things ≡ length counts → ⊥) → false ≡ all_fit fits things (seen counts)
+pub all_fit-unlike : {T C : Type 0} (fits : T → C → Bool) (things : List (ℕ × T)) (counts : List (ℕ × C)) → (length things ≡ length counts → ⊥) → false ≡ all_fit fits things counts
 all_fit-unlike fits [] [] unlike = absurd (unlike refl)
 all_fit-unlike fits [] (count ∷ counts) unlike = refl
 all_fit-unlike fits (thing ∷ things) [] unlike = refl
 all_fit-unlike fits (thing ∷ things) (count ∷ counts) unlike =
-    never (thing.0 == count.0) (fits thing.1 (view count.1.now))
-    ∙ ap (λ rest. (thing.0 == count.0) && fits thing.1 (view count.1.now) && rest) (all_fit-unlike fits things counts (λ e. unlike (ap suc e)))
+    never (thing.0 == count.0) (fits thing.1 count.1)
+    ∙ ap (λ rest. (thing.0 == count.0) && fits thing.1 count.1 && rest) (all_fit-unlike fits things counts (λ e. unlike (ap suc e)))
+
+-- ---- the things that entries tell
+
+told-before : {T : Type 0} (things : List (ℕ × T)) (id : ℕ) (thing : T) (o : Option (List (ℕ × T))) →
+    option_map (λ more. (things ++ (id, thing) ∷ []) ++ more) o ≡ option_map (λ more. things ++ more) (option_map (λ more. (id, thing) ∷ more) o)
+told-before things id thing None = refl
+told-before things id thing (Some more) = ap (λ ts. Some ts) (append_assoc things ((id, thing) ∷ []) more)
+
+-- one entry more tells a thing
+pub told-more : {T : Type 0} (things : List (ℕ × T)) (id : ℕ) (entry : Option T) (thing : T) (rest : List (ℕ × Option T)) → entry ≡ Some thing →
+    option_map (λ more. (things ++ (id, thing) ∷ []) ++ more) (all_told rest) ≡ option_map (λ more. things ++ more) (all_told ((id, entry) ∷ rest))
+told-more things id entry thing rest is =
+    told-before things id thing (all_told rest)
+    ∙ ap (λ e. option_map (λ more. things ++ more) (all_told ((id, e) ∷ rest))) (sym is)
+
+-- an entry that tells none
+pub told-stop : {T : Type 0} (things : List (ℕ × T)) (id : ℕ) (entry : Option T) (rest : List (ℕ × Option T)) → entry ≡ None →
+    option_map (λ more. things ++ more) (all_told ((id, entry) ∷ rest)) ≡ None
+told-stop things id entry rest is = ap (λ e. option_map (λ more. things ++ more) (all_told ((id, e) ∷ rest))) is
 
 -- ---- ids
 
 abbrev pub ids : {T : Type 0} → List (ℕ × T) → List ℕ
 ids things = map (λ thing. thing.0) things
 
-described-step : {T : Type 0} (thing : Option T) (rest : Option (List (ℕ × T))) (id : ℕ) (others : List ℕ) (found : List (ℕ × T)) →
+told-step : {T : Type 0} (thing : Option T) (rest : Option (List (ℕ × T))) (id : ℕ) (others : List ℕ) (found : List (ℕ × T)) →
     option_and_then (λ t. option_map (λ ts. (id, t) ∷ ts) rest) thing ≡ Some found → ((ts : List (ℕ × T)) → rest ≡ Some ts → ids ts ≡ others) → ids found ≡ id ∷ others
-described-step None rest id others found e later = absurd (cc)
-described-step (Some t) None id others found e later = absurd (cc)
-described-step (Some t) (Some ts) id others found e later = let same : (id, t) ∷ ts ≡ found = cc in ap ids (sym same) ∙ ap (λ ns. id ∷ ns) (later ts refl)
+told-step None rest id others found e later = absurd (cc)
+told-step (Some t) None id others found e later = absurd (cc)
+told-step (Some t) (Some ts) id others found e later = let same : (id, t) ∷ ts ≡ found = cc in ap ids (sym same) ∙ ap (λ ns. id ∷ ns) (later ts refl)
 
--- what is described keeps its id
-pub described-ids : {T : Type 0} (f : Data → Option T) (entries : List (ℕ × Data)) (found : List (ℕ × T)) → described f entries ≡ Some found → ids found ≡ ids entries
-described-ids f [] found e = let same : [] ≡ found = cc in ap ids (sym same)
-described-ids f (entry ∷ rest) found e = described-step (f entry.1) (described f rest) entry.0 (ids rest) found e (described-ids f rest)
-
-pub seen-ids : (entries : List (ℕ × Bor Value)) → ids (seen entries) ≡ ids entries
-seen-ids [] = refl
-seen-ids (entry ∷ rest) = ap (λ ns. entry.0 ∷ ns) (seen-ids rest)
+-- what is told keeps its id
+told-ids : {T : Type 0} (entries : List (ℕ × Option T)) (found : List (ℕ × T)) → all_told entries ≡ Some found → ids found ≡ ids entries
+told-ids [] found e = let same : [] ≡ found = cc in ap ids (sym same)
+told-ids (entry ∷ rest) found e = told-step entry.1 (all_told rest) entry.0 (ids rest) found e (told-ids rest)
 
 counted-step : {T : Type 0} (thing : Result T (Option ℕ)) (rest : Result (List (ℕ × T)) (ℕ × Option ℕ)) (id : ℕ) (others : List ℕ) (found : List (ℕ × T)) →
     thing_with id thing rest ≡ Ok found → ((ts : List (ℕ × T)) → rest ≡ Ok ts → ids ts ≡ others) → ids found ≡ id ∷ others
@@ -129,7 +106,7 @@ fit_rest true false c e = absurd (cc)
 fit_rest false b c e = absurd (cc)
 
 -- what is counted keeps its id
-pub counted-ids : {T : Type 0} (fits : T → Data → Bool) (f : T → Data → Result T (Option ℕ)) (things : List (ℕ × T)) (counts : List (ℕ × Data)) (found : List (ℕ × T)) →
+pub counted-ids : {T C : Type 0} (fits : T → C → Bool) (f : T → C → Result T (Option ℕ)) (things : List (ℕ × T)) (counts : List (ℕ × C)) (found : List (ℕ × T)) →
     all_fit fits things counts ≡ true → all_counted f things counts ≡ Ok found → ids found ≡ ids things
 counted-ids fits f [] counts found fit e = let same : [] ≡ found = cc in ap ids (sym same)
 counted-ids fits f (thing ∷ things) [] found fit e = absurd (cc)
@@ -138,12 +115,9 @@ counted-ids fits f (thing ∷ things) (count ∷ counts) found fit e =
     (λ ts. counted-ids fits f things counts ts (fit_rest (thing.0 == count.0) (fits thing.1 count.1) (all_fit fits things counts) fit))
 
 -- so the order of the ids stays
-pub described-ascends : {T Z : Type 0} (f : Data → Option T) (entries : List (ℕ × Bor Value)) (found : Option (Vec (ℕ × T) Z)) → Ascends entries →
-    option_map (λ things. things.items) found ≡ described f (seen entries) → IfSome found (λ things. Ascends things.items)
-described-ascends f entries None ascends e = tt
-described-ascends f entries (Some things) ascends e =
-    subst (IsStrictlySortedBy nat_cmp) (sym (described-ids f (seen entries) things.items (sym e) ∙ seen-ids entries)) ascends
+pub told-ascends : {T : Type 0} (entries : List (ℕ × Option T)) (found : List (ℕ × T)) → Ascends entries → all_told entries ≡ Some found → Ascends found
+told-ascends entries found ascends e = subst (IsStrictlySortedBy nat_cmp) (sym (told-ids entries found e)) ascends
 
-pub counted-ascends : {T : Type 0} (fits : T → Data → Bool) (f : T → Data → Result T (Option ℕ)) (things : List (ℕ × T)) (counts : List (ℕ × Data)) (found : List (ℕ × T)) →
+pub counted-ascends : {T C : Type 0} (fits : T → C → Bool) (f : T → C → Result T (Option ℕ)) (things : List (ℕ × T)) (counts : List (ℕ × C)) (found : List (ℕ × T)) →
     Ascends things → all_fit fits things counts ≡ true → all_counted f things counts ≡ Ok found → Ascends found
 counted-ascends fits f things counts found ascends fit e = subst (IsStrictlySortedBy nat_cmp) (sym (counted-ids fits f things counts found fit e)) ascends

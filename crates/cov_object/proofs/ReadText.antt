@@ -140,7 +140,7 @@ Above-put k l d (member m e ms) here above =
     Above-match (slice_cmp nat_cmp l m) k (member l d (member m e ms)) (member m d ms) (member m e (put l d ms))
     (λ less. (here, above)) above (above.0, Above-put k l d ms here above.1)
 
-Above-further : (k l : List ℕ) (ms : Members) → slice_cmp nat_cmp k l ≡ Less → Above l ms → Above k ms
+pub Above-further : (k l : List ℕ) (ms : Members) → slice_cmp nat_cmp k l ≡ Less → Above l ms → Above k ms
 Above-further k l no_members less above = tt
 Above-further k l (member m e ms) less above = (nat_list_cmp_total.trans k l m less above.0, Above-further k l ms less above.1)
 

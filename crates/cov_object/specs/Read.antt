@@ -191,7 +191,7 @@ module _ {T : Type 0} where
       option_and_then (λ thing. option_map (λ things. (entry.0, thing) ∷ things) (described read_one rest)) (read_one entry.1)
 
   -- each thing has counts under its id, of the right shape, and there are no others
-  abbrev pub all_fit : (T → Data → Bool) → List (ℕ × T) → List (ℕ × Data) → Bool
+  abbrev pub all_fit : {C : Type 0} → (T → C → Bool) → List (ℕ × T) → List (ℕ × C) → Bool
   all_fit fits [] [] = true
   all_fit fits [] (count ∷ counts) = false
   all_fit fits (thing ∷ things) [] = false
@@ -204,7 +204,7 @@ module _ {T : Type 0} where
   thing_with id (Ok thing) (Ok things) = Ok ((id, thing) ∷ things)
 
   -- the things with their counts, or the first count that is none
-  abbrev pub all_counted : (T → Data → Result T (Option ℕ)) → List (ℕ × T) → List (ℕ × Data) → Result (List (ℕ × T)) (ℕ × Option ℕ)
+  abbrev pub all_counted : {C : Type 0} → (T → C → Result T (Option ℕ)) → List (ℕ × T) → List (ℕ × C) → Result (List (ℕ × T)) (ℕ × Option ℕ)
   all_counted with_counts [] counts = Ok []
   all_counted with_counts (thing ∷ things) [] = Ok []
   all_counted with_counts (thing ∷ things) (count ∷ counts) = thing_with thing.0 (with_counts thing.1 count.1) (all_counted with_counts things counts)
@@ -222,12 +222,12 @@ module _ {T : Type 0} (path descriptions counts : List ℕ) where
   counts_or_fault (Ok things) = Ok things
   counts_or_fault (Err place) = Err (fault.Count path (count_name counts place))
 
-  abbrev pub with_fitting : (T → Data → Bool) → (T → Data → Result T (Option ℕ)) → List (ℕ × T) → Option (List (ℕ × Data)) → Result (List (ℕ × T)) CoverageFault
+  abbrev pub with_fitting : {C : Type 0} → (T → C → Bool) → (T → C → Result T (Option ℕ)) → List (ℕ × T) → Option (List (ℕ × C)) → Result (List (ℕ × T)) CoverageFault
   with_fitting fits with_counts things None = Err (fault.BadMember path counts)
   with_fitting fits with_counts things (Some values) =
       if all_fit fits things values then counts_or_fault (all_counted with_counts things values) else Err (fault.BadMember path counts)
 
-  abbrev pub with_described : (T → Data → Bool) → (T → Data → Result T (Option ℕ)) → Option (List (ℕ × T)) → Option (List (ℕ × Data)) → Result (List (ℕ × T)) CoverageFault
+  abbrev pub with_described : {C : Type 0} → (T → C → Bool) → (T → C → Result T (Option ℕ)) → Option (List (ℕ × T)) → Option (List (ℕ × C)) → Result (List (ℕ × T)) CoverageFault
   with_described fits with_counts None values = Err (fault.BadMember path descriptions)
   with_described fits with_counts (Some things) values = with_fitting fits with_counts things values
 

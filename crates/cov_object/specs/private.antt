@@ -1,4 +1,5 @@
 pub mod ByFile
+pub mod ByMember
 pub mod Counted
 pub mod Escapes
 pub mod Formed

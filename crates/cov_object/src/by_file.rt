@@ -1,4 +1,4 @@
-// The files of a text, one after another: no more than one file's JSON is held at a time.
+// The files of a text, one after another.
 ghost use Rattle.std.specs.Prelude.{◌≡◌, ◌≢◌, ◌+◌, ◌<◌, ◌≤◌, ◌∷◌, length, IsTrue, Some, None, Ok, Err, option_map, option_and_then, IfOk, IfErr, OnOk};
 ghost use Rattle.json.specs.Token.{begin_object};
 ghost use Rattle.json.specs.Json.{value as tokens_value, members, parse_map};
@@ -11,21 +11,21 @@ ghost use Rattle.cov_object.specs.declared.fault.CoverageFault.TheVariants.{Memo
 ghost use Rattle.cov_object.specs.declared.json_value.Unread.TheVariants.{NoJson};
 ghost use Rattle.cov_object.specs.Read as spec;
 ghost use Rattle.cov_object.specs.private.ByFile.{begins_object, answers, answered, all_or_first, AreUnderTheirKeys};
+ghost use Rattle.cov_object.specs.private.ByMember.{file_told};
 
+use crate::by_member::next_file;
 use crate::fault::{CoverageFault, bad_member};
 use crate::file::FileCoverage;
 use crate::json_text::text_value;
-use crate::json_value::{Unread, next_value};
+use crate::json_value::Unread;
 use crate::map::CoverageMap;
+use crate::parts::{FileParts, parts_in};
 use crate::read::read_file;
 use items::Memory;
 use json::{Reader, Scratch, Token};
 use serde_json::Value;
 use std::alloc::{AllocError, Global};
 use std::collections::BTreeMap;
-
-// The greatest depth of a file's value: one less than that of the whole.
-const FILE_DEPTH: usize = 126;
 
 // The files that a text tells, or its first fault.
 pub(crate) fn files_in(alloc: Global, text: &str) -> Result<CoverageMap, CoverageFault>
@@ -92,7 +92,7 @@ fn next_answers(
     Ok(found)
 }
 
-// What the value tells that comes next, under its key. It is held no longer than that takes.
+// What the value tells that comes next, under its key.
 fn next_answer(
     alloc: Global,
     reader: &mut Reader<'_>,
@@ -103,11 +103,11 @@ fn next_answer(
     ensures shorter { OnOk result (length reader.new < length reader.old) }
     ensures err { result ≡ Err NoJson → converted of_json (tokens_value (most_depth + 1) reader.old) ≡ None }
 {
-    let value = next_value(alloc, reader, FILE_DEPTH)?;
-    Ok(answer_of(alloc, key, &value)?)
+    let parts = next_file(alloc, reader, key)?;
+    Ok(answer_of_parts(alloc, key, parts)?)
 }
 
-// What a member tells: a file, or why it is none.
+// What a file's value tells: the file, or why it is none.
 pub(crate) fn answer_of(
     alloc: Global,
     key: &str,
@@ -116,7 +116,19 @@ pub(crate) fn answer_of(
     requires { depth (view value.now) ≤ most_depth + 1 }
     ensures { IfOk result (λ answer. answer ≡ spec.file_of key.now (view value.now)) }
 {
-    match read_file(alloc, key, value) {
+    let parts = parts_in(alloc, key, value)?;
+    answer_of_parts(alloc, key, parts)
+}
+
+// What was kept of a file tells: the file, or why it is none.
+fn answer_of_parts(
+    alloc: Global,
+    key: &str,
+    parts: FileParts,
+) -> Result<Result<FileCoverage, CoverageFault>, Memory>
+    ensures { IfOk result (λ answer. answer ≡ file_told key.now parts) }
+{
+    match read_file(alloc, key, parts) {
         Ok(file) => Ok(Ok(file)),
         Err(CoverageFault::Memory) => Err(AllocError),
         Err(fault) => Ok(Err(fault)),

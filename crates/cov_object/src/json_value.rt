@@ -127,7 +127,7 @@ fn next_members(
 
 // The number that a token's text writes; none where no float can hold it.
 #[tactic(auto, unfolding(serde_json::specs::Read::number_of))]
-fn number_in(text: &str) -> Option<Number>
+pub(crate) fn number_in(text: &str) -> Option<Number>
     ensures { option_map number_view result ≡ number_of text.now }
 {
     let bytes = text.as_bytes();

@@ -3,11 +3,14 @@
 
 mod branch;
 mod by_file;
+mod by_member;
 mod counted;
 mod data;
 mod described;
 mod description;
 mod digits;
+mod entries;
+mod entry;
 mod escapes;
 mod fault;
 mod file;
@@ -24,9 +27,11 @@ mod number;
 mod numbered;
 mod objects;
 mod order;
+mod parts;
 mod piece;
 mod place;
 mod read;
+mod skip;
 mod source_map_text;
 mod things;
 mod write;

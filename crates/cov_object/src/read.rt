@@ -1,21 +1,18 @@
-ghost use Rattle.std.specs.Prelude.{◌≡◌, ◌≢◌, ◌+◌, ◌≤◌, Ok, Err, IfOk, IfErr};
-ghost use Rattle.serde_json.specs.Data.{depth};
-ghost use Rattle.serde_json.specs.View.{view};
-ghost use Rattle.cov_object.specs.SourceMapText.{most_depth};
+ghost use Rattle.std.specs.Prelude.{◌≡◌, ◌≢◌, Ok, Err, IfOk, IfErr};
 ghost use Rattle.cov_object.specs.declared.fault.CoverageFault.TheVariants.{Memory as OutOfMemory};
 ghost use Rattle.cov_object.specs.Read as spec;
+ghost use Rattle.cov_object.specs.private.ByMember.{path_told, numbered_told, hash_told, source_map_told, origin_told, file_told};
 
 use crate::branch::BranchCoverage;
 use crate::by_file::files_in;
 use crate::fault::{CoverageFault, bad_member};
 use crate::file::{FileCoverage, FunctionCoverage, StatementCoverage};
-use crate::from_value::text_in;
 use crate::map::CoverageMap;
 use crate::numbered::Numbered;
+use crate::parts::{FileParts, MapParts};
 use crate::source_map_text::SourceMapText;
 use crate::things::read_things;
 use items::Text;
-use serde_json::Value;
 use std::alloc::Global;
 
 /// The coverage map that bytes tell as JSON, Istanbul's `coverage-final.json`: an object from each
@@ -41,19 +38,24 @@ pub fn read_json(alloc: Global, bytes: &[u8]) -> Result<CoverageMap, CoverageFau
     files_in(alloc, text)
 }
 
-// The file under a key.
+// The file under a key, of what was kept of its members.
 pub(crate) fn read_file(
     alloc: Global,
     key: &str,
-    value: &Value,
+    parts: FileParts,
 ) -> Result<FileCoverage, CoverageFault>
-    requires { depth (view value.now) ≤ most_depth + 1 }
-    ensures ok { IfOk result (λ file. spec.file_of key.now (view value.now) ≡ Ok file) }
-    ensures err { IfErr result (λ fault. fault ≢ OutOfMemory → spec.file_of key.now (view value.now) ≡ Err fault) }
+    ensures ok { IfOk result (λ file. file_told key.now parts ≡ Ok file) }
+    ensures err { IfErr result (λ fault. fault ≢ OutOfMemory → file_told key.now parts ≡ Err fault) }
 {
-    let path = read_path(alloc, key, value)?;
-    let (statements, functions, branches) = read_numbered(alloc, path.as_str(), value)?;
-    let (hash, input_source_map) = read_origin(alloc, path.as_str(), value)?;
+    let FileParts {
+        has_path,
+        maps,
+        hash,
+        source_map,
+    } = parts;
+    let path = read_path(alloc, key, has_path)?;
+    let (statements, functions, branches) = read_numbered(alloc, path.as_str(), maps)?;
+    let (hash, input_source_map) = read_origin(alloc, path.as_str(), hash, source_map)?;
     Ok(FileCoverage {
         path,
         hash,
@@ -68,7 +70,7 @@ pub(crate) fn read_file(
 fn read_numbered(
     alloc: Global,
     path: &str,
-    value: &Value,
+    maps: MapParts,
 ) -> Result<
     (
         Numbered<StatementCoverage>,
@@ -77,12 +79,27 @@ fn read_numbered(
     ),
     CoverageFault,
 >
-    ensures ok { IfOk result (λ numbered. spec.numbered_of path.now (view value.now) ≡ Ok numbered) }
-    ensures err { IfErr result (λ fault. fault ≢ OutOfMemory → spec.numbered_of path.now (view value.now) ≡ Err fault) }
+    ensures ok { IfOk result (λ numbered. numbered_told path.now maps ≡ Ok numbered) }
+    ensures err { IfErr result (λ fault. fault ≢ OutOfMemory → numbered_told path.now maps ≡ Err fault) }
 {
-    let statements = read_things(alloc, path, "statementMap", "s", value)?;
-    let functions = read_things(alloc, path, "fnMap", "f", value)?;
-    let branches = read_things(alloc, path, "branchMap", "b", value)?;
+    let MapParts {
+        statement_map,
+        statement_counts,
+        function_map,
+        function_counts,
+        branch_map,
+        branch_counts,
+    } = maps;
+    let statements = read_things(
+        alloc,
+        path,
+        "statementMap",
+        "s",
+        statement_map,
+        statement_counts,
+    )?;
+    let functions = read_things(alloc, path, "fnMap", "f", function_map, function_counts)?;
+    let branches = read_things(alloc, path, "branchMap", "b", branch_map, branch_counts)?;
     Ok((statements, functions, branches))
 }
 
@@ -90,43 +107,42 @@ fn read_numbered(
 fn read_origin(
     alloc: Global,
     path: &str,
-    value: &Value,
+    hash: Option<Option<Text>>,
+    source_map: Option<Option<SourceMapText>>,
 ) -> Result<(Option<Text>, Option<SourceMapText>), CoverageFault>
-    requires { depth (view value.now) ≤ most_depth + 1 }
-    ensures ok { IfOk result (λ origin. spec.origin_of path.now (view value.now) ≡ Ok origin) }
-    ensures err { IfErr result (λ fault. fault ≢ OutOfMemory → spec.origin_of path.now (view value.now) ≡ Err fault) }
+    ensures ok { IfOk result (λ origin. origin_told path.now hash source_map ≡ Ok origin) }
+    ensures err { IfErr result (λ fault. fault ≢ OutOfMemory → origin_told path.now hash source_map ≡ Err fault) }
 {
-    let hash = read_hash(alloc, path, value)?;
-    let input_source_map = read_source_map(alloc, path, value)?;
+    let hash = read_hash(alloc, path, hash)?;
+    let input_source_map = read_source_map(alloc, path, source_map)?;
     Ok((hash, input_source_map))
 }
 
 // The path, which is the key.
-fn read_path(alloc: Global, key: &str, value: &Value) -> Result<Text, CoverageFault>
-    ensures ok { IfOk result (λ path. spec.path_of key.now (view value.now) ≡ Ok path) }
-    ensures err { IfErr result (λ fault. fault ≢ OutOfMemory → spec.path_of key.now (view value.now) ≡ Err fault) }
+fn read_path(alloc: Global, key: &str, has_path: bool) -> Result<Text, CoverageFault>
+    ensures ok { IfOk result (λ path. path_told key.now has_path ≡ Ok path) }
+    ensures err { IfErr result (λ fault. fault ≢ OutOfMemory → path_told key.now has_path ≡ Err fault) }
 {
-    match text_in("path", value) {
-        Some(path) => if path == key {
-            Ok(Text::from_str(alloc, key)?)
-        } else {
-            Err(bad_member(alloc, key, "path"))
-        },
-        None => Err(bad_member(alloc, key, "path")),
+    if has_path {
+        Ok(Text::from_str(alloc, key)?)
+    } else {
+        Err(bad_member(alloc, key, "path"))
     }
 }
 
 // The hash, where there is one.
-fn read_hash(alloc: Global, path: &str, value: &Value) -> Result<Option<Text>, CoverageFault>
-    ensures ok { IfOk result (λ hash. spec.hash_of path.now (view value.now) ≡ Ok hash) }
-    ensures err { IfErr result (λ fault. fault ≢ OutOfMemory → spec.hash_of path.now (view value.now) ≡ Err fault) }
+fn read_hash(
+    alloc: Global,
+    path: &str,
+    hash: Option<Option<Text>>,
+) -> Result<Option<Text>, CoverageFault>
+    ensures ok { IfOk result (λ found. hash_told path.now hash ≡ Ok found) }
+    ensures err { IfErr result (λ fault. fault ≢ OutOfMemory → hash_told path.now hash ≡ Err fault) }
 {
-    let Some(hash) = value.get("hash") else {
-        return Ok(None);
-    };
-    match hash.as_str() {
-        Some(hash) => Ok(Some(Text::from_str(alloc, hash)?)),
-        None => Err(bad_member(alloc, path, "hash")),
+    match hash {
+        None => Ok(None),
+        Some(Some(hash)) => Ok(Some(hash)),
+        Some(None) => Err(bad_member(alloc, path, "hash")),
     }
 }
 
@@ -134,17 +150,14 @@ fn read_hash(alloc: Global, path: &str, value: &Value) -> Result<Option<Text>, C
 fn read_source_map(
     alloc: Global,
     path: &str,
-    value: &Value,
+    map: Option<Option<SourceMapText>>,
 ) -> Result<Option<SourceMapText>, CoverageFault>
-    requires { depth (view value.now) ≤ most_depth + 1 }
-    ensures ok { IfOk result (λ map. spec.source_map_of path.now (view value.now) ≡ Ok map) }
-    ensures err { IfErr result (λ fault. fault ≢ OutOfMemory → spec.source_map_of path.now (view value.now) ≡ Err fault) }
+    ensures ok { IfOk result (λ found. source_map_told path.now map ≡ Ok found) }
+    ensures err { IfErr result (λ fault. fault ≢ OutOfMemory → source_map_told path.now map ≡ Err fault) }
 {
-    let Some(map) = value.get("inputSourceMap") else {
-        return Ok(None);
-    };
-    match SourceMapText::from_value(alloc, map)? {
-        Some(map) => Ok(Some(map)),
-        None => Err(bad_member(alloc, path, "inputSourceMap")),
+    match map {
+        None => Ok(None),
+        Some(Some(map)) => Ok(Some(map)),
+        Some(None) => Err(bad_member(alloc, path, "inputSourceMap")),
     }
 }

@@ -1,39 +1,63 @@
-ghost use Rattle.std.specs.Prelude.{◌≡◌, ◌≢◌, Ok, Err, map, option_map, option_and_then, IfOk, IfErr, IfSome};
+ghost use Rattle.std.specs.Prelude.{◌≡◌, ◌≢◌, Ok, Err, option_map, option_and_then, IfOk, IfErr, IfSome};
 ghost use Rattle.std.specs.Result.{result_map_both};
-ghost use Rattle.serde_json.specs.View.{view};
 ghost use Rattle.cov_object.specs.Read as spec;
 ghost use Rattle.cov_object.specs.Numbered.{Ascends};
 ghost use Rattle.cov_object.specs.declared.fault.CoverageFault.TheVariants.{Memory as OutOfMemory, Count as miscount};
+ghost use Rattle.cov_object.specs.private.ByMember.{all_told, things_told};
 
 use crate::described::Described;
+use crate::entries::Entries;
 use crate::fault::{CoverageFault, bad_member};
-use crate::ids::entries_in;
 use crate::numbered::Numbered;
 use items::{Memory, Text};
-use serde_json::Value;
 use std::alloc::Global;
+use std::collections::BTreeMap;
 
-// The things that the entries describe, each under its id.
-fn all_described<T: Described>(
+// The things of a map, each under its id, in the order of the ids; none where one of them is none.
+fn all_things<T: Drop>(
     alloc: Global,
-    entries: &[(u64, &Value)],
+    entries: BTreeMap<u64, Option<T>>,
 ) -> Result<Option<Vec<(u64, T)>>, Memory>
-    ensures { IfOk result (λ things. option_map (λ things. things.items) things
-        ≡ spec.described T.described (map (λ entry. (entry.0, view entry.1.now)) entries.now)) }
+    ensures value { IfOk result (λ things. option_map (λ things. things.items) things ≡ all_told entries.entries) }
+    ensures order { IfOk result (λ things. IfSome things (λ things. Ascends things.items)) }
 {
     let mut things = Vec::new(alloc);
-    for (id, value) in entries {
-        match T::from_value(alloc, value)? {
-            Some(thing) => things.push((*id, thing))?,
+    'entries: for (id, thing) in entries {
+        match thing {
+            Some(thing) => things.push((id, thing))?,
             None => return Ok(None),
         }
     }
     Ok(Some(things))
 }
 
-// Whether each thing has counts under its id, of the right shape, and there are no others.
-fn all_fit<T: Described>(things: &[(u64, T)], counts: &[(u64, &Value)]) -> bool
-    ensures { result ≡ spec.all_fit T.fits things.now (map (λ entry. (entry.0, view entry.1.now)) counts.now) }
+// The things that were kept, each under its id, in the order of the ids.
+fn things_in<T: Drop>(
+    alloc: Global,
+    entries: Entries<Option<T>>,
+) -> Result<Option<Vec<(u64, T)>>, Memory>
+    ensures value { IfOk result (λ things. option_map (λ things. things.items) things ≡ option_and_then all_told entries) }
+    ensures order { IfOk result (λ things. IfSome things (λ things. Ascends things.items)) }
+{
+    match entries.into_map() {
+        Some(entries) => all_things(alloc, entries),
+        None => Ok(None),
+    }
+}
+
+// The counts that were kept, each under its id, in the order of the ids.
+fn counts_in<C: Drop>(alloc: Global, entries: Entries<C>) -> Result<Option<Vec<(u64, C)>>, Memory>
+    ensures { IfOk result (λ counts. option_map (λ counts. counts.items) counts ≡ entries) }
+{
+    match entries.into_map() {
+        Some(entries) => Ok(Some(entries.into_iter().collect(alloc)?)),
+        None => Ok(None),
+    }
+}
+
+// Whether each thing has counts under its id, of its form, and there are no others.
+fn all_fit<T: Described>(things: &[(u64, T)], counts: &[(u64, T::Counts)]) -> bool
+    ensures { result ≡ spec.all_fit T.fits things.now counts.now }
 {
     if things.len() != counts.len() {
         return false;
@@ -41,7 +65,7 @@ fn all_fit<T: Described>(things: &[(u64, T)], counts: &[(u64, &Value)]) -> bool
     for place in 0..things.len() {
         let thing = &things[place];
         let count = &counts[place];
-        if thing.0 != count.0 || !thing.1.is_fit(count.1) {
+        if thing.0 != count.0 || !thing.1.is_fit(&count.1) {
             return false;
         }
     }
@@ -52,10 +76,10 @@ fn all_fit<T: Described>(things: &[(u64, T)], counts: &[(u64, &Value)]) -> bool
 fn all_counted<T: Described>(
     alloc: Global,
     things: Vec<(u64, T)>,
-    counts: &[(u64, &Value)],
+    counts: &[(u64, T::Counts)],
 ) -> Result<Result<Vec<(u64, T)>, (u64, Option<usize>)>, Memory>
     ensures { IfOk result (λ counted. result_map_both (λ things. things.items) (λ place. place) counted
-        ≡ spec.all_counted T.counted things.items (map (λ entry. (entry.0, view entry.1.now)) counts.now)) }
+        ≡ spec.all_counted T.counted things.items counts.now) }
 {
     let mut counted = Vec::new(alloc);
     let mut place = 0usize;
@@ -63,29 +87,13 @@ fn all_counted<T: Described>(
         if place >= counts.len() {
             return Ok(Ok(counted));
         }
-        match thing.with_counts(alloc, counts[place].1)? {
+        match thing.with_counts(alloc, &counts[place].1)? {
             Ok(thing) => counted.push((id, thing))?,
             Err(path) => return Ok(Err((id, path))),
         }
         place += 1;
     }
     Ok(Ok(counted))
-}
-
-// The things that a member of a file describes, each under its id, in the order of the ids.
-fn described_in<T: Described>(
-    alloc: Global,
-    name: &str,
-    file: &Value,
-) -> Result<Option<Vec<(u64, T)>>, Memory>
-    ensures value { IfOk result (λ things. option_map (λ things. things.items) things
-        ≡ option_and_then (spec.described T.described) (spec.entries_in name.now (view file.now))) }
-    ensures order { IfOk result (λ things. IfSome things (λ things. Ascends things.items)) }
-{
-    match entries_in(alloc, name, file)? {
-        Some(entries) => all_described(alloc, &entries),
-        None => Ok(None),
-    }
 }
 
 // The fault of a count that is none, or want of memory.
@@ -114,23 +122,23 @@ fn bad_count(
     }
 }
 
-// The things that a file has under a map and its counts.
+// The things of a file, of what was kept of a map and of its counts.
 pub(crate) fn read_things<T: Described>(
     alloc: Global,
     path: &str,
     descriptions: &str,
     counts: &str,
-    file: &Value,
+    things: Entries<Option<T>>,
+    values: Entries<T::Counts>,
 ) -> Result<Numbered<T>, CoverageFault>
-    ensures ok { IfOk result (λ things.
-        spec.things_of path.now descriptions.now counts.now T.described T.fits T.counted (view file.now) ≡ Ok things) }
+    ensures ok { IfOk result (λ found. things_told path.now descriptions.now counts.now T.fits T.counted things values ≡ Ok found) }
     ensures err { IfErr result (λ fault. fault ≢ OutOfMemory
-        → spec.things_of path.now descriptions.now counts.now T.described T.fits T.counted (view file.now) ≡ Err fault) }
+        → things_told path.now descriptions.now counts.now T.fits T.counted things values ≡ Err fault) }
 {
-    let Some(things) = described_in::<T>(alloc, descriptions, file)? else {
+    let Some(things) = things_in(alloc, things)? else {
         return Err(bad_member(alloc, path, descriptions));
     };
-    let Some(values) = entries_in(alloc, counts, file)? else {
+    let Some(values) = counts_in(alloc, values)? else {
         return Err(bad_member(alloc, path, counts));
     };
     if !all_fit(&things, &values) {

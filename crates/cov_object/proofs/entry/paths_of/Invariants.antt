@@ -2,7 +2,7 @@
 use Rattle.std.proofs.Common.{◌≡◌, ◌++◌, drop, option_map}
 use Rattle.serde_json.specs.View.{items_view}
 use Rattle.cov_object.specs.Read as spec
-use Rattle.cov_object.proofs.described.paths_of.Given as goal
+use Rattle.cov_object.proofs.entry.paths_of.Given as goal
 
 abbrev pub invariant-loop-value : goal.invariant-loop-value
 invariant-loop-value l =

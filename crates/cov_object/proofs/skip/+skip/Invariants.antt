@@ -1,0 +1,37 @@
+-- What is left after those still to come is what is left after all.
+use Rattle.std.proofs.Common.{◌≡◌, ℕ, ◌+◌, ◌*◌, ◌≤◌, length}
+use Rattle.json.specs.Json.{value}
+use Rattle.serde_json.specs.Data.{Members, no_members}
+use Rattle.cov_object.specs.private.ByMember.{left}
+use Rattle.cov_object.proofs.JsonValue.{data_items, data_members}
+use Rattle.cov_object.proofs.skip.+skip.Given as goal
+
+abbrev pub decreases-enter_object : goal.decreases-enter_object
+decreases-enter_object l = 3 * l.depth
+
+abbrev pub decreases-skip_value : goal.decreases-skip_value
+decreases-skip_value l = 3 * l.depth + 1
+
+abbrev pub decreases-skip_items : goal.decreases-skip_items
+decreases-skip_items l = 3 * l.depth + 2
+
+abbrev pub decreases-skip_members : goal.decreases-skip_members
+decreases-skip_members l = 3 * l.depth + 2
+
+abbrev pub invariant-skip_items-items : goal.invariant-skip_items-items
+invariant-skip_items-items l =
+    (n : ℕ) × (length l.reader ≤ n)
+    × (left (data_items (value l.depth) (length l.initial.reader) l.initial.reader) ≡ left (data_items (value l.depth) n l.reader))
+    × (length l.reader ≤ length l.initial.reader)
+
+abbrev pub decreases-skip_items-items : goal.decreases-skip_items-items
+decreases-skip_items-items l = length l.reader
+
+abbrev pub invariant-skip_members-members : goal.invariant-skip_members-members
+invariant-skip_members-members l =
+    (n : ℕ) × (old : Members) × (length l.reader ≤ n)
+    × (left (data_members (value l.depth) (length l.initial.reader) no_members l.initial.reader) ≡ left (data_members (value l.depth) n old l.reader))
+    × (length l.reader ≤ length l.initial.reader)
+
+abbrev pub decreases-skip_members-members : goal.decreases-skip_members-members
+decreases-skip_members-members l = length l.reader
