@@ -37,26 +37,26 @@ use Rattle.js_lockstep.proofs.Heaps.{Both, Grown, both_of, root_bound, stores_gr
 use Rattle.js_lockstep.proofs.Scopes.{AlikeShapes, closed_made, shape_alike}
 
 -- an object stays as it is, and in bounds
-record Keeps (h i : Heap) (o : ℕ) : Type 0 where
-  same : object_at i o ≡ object_at h o
-  bound : o < length i.objects
+pub record Keeps (h i : Heap) (o : ℕ) : Type 0 where
+  pub same : object_at i o ≡ object_at h o
+  pub bound : o < length i.objects
 
-then_keeps : {h i j : Heap} {o : ℕ} → Keeps h i o → Keeps i j o → Keeps h j o
+pub then_keeps : {h i j : Heap} {o : ℕ} → Keeps h i o → Keeps i j o → Keeps h j o
 then_keeps a b = record { same = b.same ∙ a.same; bound = b.bound }
 
-new_keeps : (kind : ObjectKind) (prototype : Option ℕ) (h : Heap) (o : ℕ) → o < length h.objects → Keeps h (new_object kind prototype h) o
+pub new_keeps : (kind : ObjectKind) (prototype : Option ℕ) (h : Heap) (o : ℕ) → o < length h.objects → Keeps h (new_object kind prototype h) o
 new_keeps kind prototype h o b = record {
   same = get_or_append_left h.objects _ no_object o b;
   bound = let l = length_push h.objects (record { kind = kind; prototype = prototype; frozen = false; elements = []; properties = [] }) in omega (arith, b, l);
 }
 
-define_keeps : (f : ℕ) (x : Property) (h : Heap) (o : ℕ) → o ≢ f → o < length h.objects → Keeps h (define f x h) o
+pub define_keeps : (f : ℕ) (x : Property) (h : Heap) (o : ℕ) → o ≢ f → o < length h.objects → Keeps h (define f x h) o
 define_keeps f x h o n b = record {
   same = get_or-set_other h.objects f o _ no_object n;
   bound = subst (λ l. o < l) (sym (length-set h.objects f _)) b;
 }
 
-less : {a b : ℕ} → a < b → a ≢ b
+pub less : {a b : ℕ} → a < b → a ≢ b
 less l e = omega (arith, l, e)
 
 function_keeps : (code env : ℕ) (name : List ℕ) (n : ℕ) (h : Heap) (o : ℕ) → o < length h.objects → Keeps h (function_made code env name n h) o
@@ -71,7 +71,7 @@ constructor_keeps f h o n b =
     let c = define_keeps (next_object h) _ _ o (less b) a.bound in
     then_keeps (then_keeps a c) (define_keeps f _ _ o n c.bound)
 
-closed_keeps : (f : Shape) (name : List ℕ) (env : ℕ) (h : Heap) (o : ℕ) → o < length h.objects → Keeps h (closed f name env h) o
+pub closed_keeps : (f : Shape) (name : List ℕ) (env : ℕ) (h : Heap) (o : ℕ) → o < length h.objects → Keeps h (closed f name env h) o
 closed_keeps f name env h o b = by f.constructs
   where
     by : (c : Bool) → Keeps h (record h { objects = (with_constructor c (next_object h) (function_made f.number env name f.length h)).objects }) o
