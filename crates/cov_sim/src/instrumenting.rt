@@ -6,12 +6,14 @@ ghost use Rattle.js_layout.specs.Layout.{layout, marks};
 ghost use Rattle.js_scopes.specs.Accepted.{Accepted};
 ghost use Rattle.cov_sim.specs.Instrumented.{instrumented, is_left_out, mapped_text, with_text, Instruments, AreInstrumented};
 ghost use Rattle.cov_sim.specs.Again.{IsReadAgain};
+ghost use Rattle.cov_sim.specs.Headline.{HavePaths, Simulates};
 ghost use Rattle.cov_sources.specs.Refused.{IsRefused};
 ghost use Rattle.cov_sim.specs.Refused.{RefusesFirst};
 ghost use Rattle.cov_sim.specs.declared.fault.InstrumentFault.TheVariants.{Memory as OutOfMemory};
 
 use crate::fault::InstrumentFault;
 use crate::instrumented::{Instrumented, MappedText};
+use crate::laws::simulating;
 use cov_hash::hash_of;
 use cov_hints::ignores_file;
 use cov_rewrite::rewrite;
@@ -27,15 +29,18 @@ use std::alloc::{AllocError, Global};
 
 /// The instrumented texts of the sources that are counted and that no comment takes out, in their
 /// order, each with its map. Each is read again as the instrumented tree, within the limits of such
-/// texts. All sources are read; the first that isn't accepted is told. Only want of memory may come
-/// besides.
+/// texts. Where each source stands at a path of its own that ends with `.js`, the texts do what the
+/// sources do and count it. All sources are read; the first that isn't accepted is told. Only want of
+/// memory may come besides.
 pub fn instrument_all(
     alloc: Global,
     sources: &Sources,
 ) -> Result<Vec<Instrumented>, InstrumentFault>
     ensures texts { IfOk result (λ list. AreInstrumented sources.now.items list.items) }
+    ensures simulates { IfOk result (λ list. HavePaths sources.now.items → Simulates sources.now.items list.items) }
     ensures refused { IfErr result (λ fault. fault ≢ OutOfMemory → RefusesFirst sources.now.items fault) }
 {
+    simulating();
     all_of(alloc, sources.as_slice())
 }
 
