@@ -7,7 +7,7 @@ use Rattle.std.specs.Str.{IsUtf8, chars}
 use Rattle.std.proofs.lemmas.Bool.{eqb-false}
 use Rattle.std.proofs.lemmas.Slice.Eq.{bytes_eq-Decides}
 use Rattle.items.specs.declared.data.Data.TheVariants as form
-use Rattle.js_tree.specs.Mark.{Mark}
+use Rattle.js_terms.specs.Mark.{Mark}
 use Rattle.js_value.specs.declared.built_in.Place.TheVariants as place
 use Rattle.js_value.specs.State.{Property, Heap}
 use Rattle.js_value.specs.Functions.{name_units}

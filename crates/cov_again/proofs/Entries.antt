@@ -4,13 +4,13 @@ use Rattle.std.specs.List.{enumerate_from}
 use Rattle.std.specs.List.Sorted.{IsStrictlySortedBy}
 use Rattle.std.specs.Ordering.{nat_cmp}
 use Rattle.std.specs.Str.{bytes_eq}
-use Rattle.js_tree.specs.Mark.{Mark}
+use Rattle.js_terms.specs.Mark.{Mark}
 use Rattle.js_tree.specs.Marked.{is_mark, one_if, times}
-use Rattle.js_tree.specs.declared.place.Loc.{Loc}
-use Rattle.js_tree.specs.declared.construct.Construct.{Construct}
-use Rattle.js_tree.specs.declared.construct.Construct.TheVariants as construct
-use Rattle.js_tree.specs.declared.construct.ConstructKind.{ConstructKind}
-use Rattle.js_tree.specs.declared.construct.ConstructKind.TheVariants as construct_kind
+use Rattle.js_terms.specs.declared.place.Loc.{Loc}
+use Rattle.js_terms.specs.declared.construct.Construct.{Construct}
+use Rattle.js_terms.specs.declared.construct.Construct.TheVariants as construct
+use Rattle.js_terms.specs.declared.construct.ConstructKind.{ConstructKind}
+use Rattle.js_terms.specs.declared.construct.ConstructKind.TheVariants as construct_kind
 use Rattle.js_walk.specs.Constructs.{constructs_file}
 use Rattle.js_meaning.specs.Program.{Source}
 use Rattle.cov_maps.specs.Located.{location_at}

@@ -3,11 +3,11 @@ use Rattle.std.proofs.Common.{◌≡◌, ℕ, zero, suc, ◌+◌, Bool, true, fa
 use Rattle.std.specs.Prelude.{slice_get}
 use Rattle.std.proofs.lemmas.List.{length-map}
 use Rattle.serde_json.specs.Data.{Data}
-use Rattle.js_tree.specs.Mark.{Mark}
-use Rattle.js_tree.specs.declared.construct.ConstructKind.{ConstructKind}
-use Rattle.js_tree.specs.declared.construct.ConstructKind.TheVariants as construct_kind
+use Rattle.js_terms.specs.Mark.{Mark}
+use Rattle.js_terms.specs.declared.construct.ConstructKind.{ConstructKind}
+use Rattle.js_terms.specs.declared.construct.ConstructKind.TheVariants as construct_kind
 use Rattle.js_tree.specs.Hints.{heed_comments}
-use Rattle.js_tree.specs.declared.operators.UpdateOperator.TheVariants as update
+use Rattle.js_terms.specs.declared.operators.UpdateOperator.TheVariants as update
 use Rattle.js_tree.specs.Plain.{Call, PostfixUpdate, no_expr, File, MakeFile}
 use Rattle.js_tree.specs.Codes.{number_of, from_code, functions_file}
 use Rattle.js_tree.specs.Linked.{Marking, Unmarked, Marked, Alone, Numbers, Linked, link_file, link_stmts}

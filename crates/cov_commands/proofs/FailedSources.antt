@@ -3,7 +3,7 @@ use Rattle.std.proofs.Common.{◌≡◌, ℕ, ◌⊎◌, inl, inr, List, refl, s
 use Rattle.js_text.specs.declared.text.TextFault.TheVariants as text
 use Rattle.js_parser.specs.declared.refused.Refusal.{Refusal}
 use Rattle.js_parser.specs.declared.refused.Refusal.TheVariants as refusal
-use Rattle.js_tree.specs.declared.place.Pos.{Pos}
+use Rattle.js_terms.specs.declared.place.Pos.{Pos}
 use Rattle.cov_sources.specs.declared.why.Why.{Why}
 use Rattle.cov_sources.specs.declared.why.Why.TheVariants as cause
 use Rattle.cov_run.specs.declared.fault.LoadFault.{LoadFault}

@@ -2,7 +2,7 @@
 use Rattle.std.proofs.Common.{◌≡◌, ℕ, List, [], ◌∷◌, ◌++◌, sym}
 use Rattle.std.specs.Prelude.{codes, decimal}
 use Rattle.std.proofs.lemmas.List.{append_assoc}
-use Rattle.js_tree.specs.declared.place.Pos.{Pos}
+use Rattle.js_terms.specs.declared.place.Pos.{Pos}
 use Rattle.cov_summary.specs.declared.shortfall.Shortfall.{Shortfall}
 use Rattle.cov_report.specs.Percent.{percent_text}
 use Rattle.cov_inputs.specs.declared.refusal.What.{What}

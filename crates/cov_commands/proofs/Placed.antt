@@ -1,7 +1,7 @@
 -- The constructs of a text that was read stand somewhere.
 use Rattle.std.proofs.Common.{◌≡◌, ℕ, List, sym, subst}
 use Rattle.js_tree.specs.Plain.{File}
-use Rattle.js_tree.specs.declared.construct.Construct.{Construct}
+use Rattle.js_terms.specs.declared.construct.Construct.{Construct}
 use Rattle.js_walk.specs.Constructs.{constructs_file}
 use Rattle.js_reading.specs.Reads.{Reads}
 use Rattle.js_reading.proofs.PlacedTexts.{reads_placed}

@@ -7,7 +7,7 @@ use Rattle.cov_summary.specs.declared.shortfall.Shortfall.{Shortfall}
 use Rattle.cov_report.specs.Percent.{percent_text}
 use Rattle.cov_inputs.specs.declared.refusal.What.{What}
 use Rattle.cov_inputs.specs.declared.refusal.What.TheVariants as what
-use Rattle.js_tree.specs.declared.place.Pos.{Pos}
+use Rattle.js_terms.specs.declared.place.Pos.{Pos}
 use Rattle.js_reading.specs.declared.unsupported.Unsupported.{Unsupported}
 use Rattle.js_reading.specs.declared.unsupported.Unsupported.TheVariants as form
 use Rattle.js_scopes.specs.declared.fault.ScopeFault.{ScopeFault}

@@ -1,11 +1,11 @@
 -- What is owed for a command on a source, which `maps`, `exec`, `run` and `demo` are: when each status is due, what is printed, what
 -- is put, and what is said.
 use Rattle.std.specs.Prelude.{◌≡◌, ℕ, List, [], ◌∷◌, ◌++◌, Option, None, Some, Result, Ok, Err, codes, if◌then◌else◌}
-use Rattle.js_tree.specs.declared.place.Pos.{Pos}
+use Rattle.js_terms.specs.declared.place.Pos.{Pos}
 use Rattle.js_tree.specs.Comments.{ignores_file}
 use Rattle.js_tree.specs.Plain.{File, MakeFile}
-use Rattle.js_tree.specs.declared.words.Comment.{Comment}
-use Rattle.js_tree.specs.declared.construct.Construct.{Construct}
+use Rattle.js_terms.specs.declared.words.Comment.{Comment}
+use Rattle.js_terms.specs.declared.construct.Construct.{Construct}
 use Rattle.js_walk.specs.Constructs.{constructs_file}
 use Rattle.js_text.specs.declared.text.TextFault.TheVariants as text
 use Rattle.js_parser.specs.declared.refused.Refusal.{Refusal}

@@ -1,10 +1,10 @@
 -- The data of a file's coverage count the entries of a log: one after the other.
 use Rattle.std.proofs.Common.{◌≡◌, ℕ, suc, ◌+◌, ◌^◌, ◌<◌, List, [], ◌∷◌, map, Bool, true, false, ◌&&◌, nat_eq, if◌then◌else◌, refl, sym, ap, ap₂, subst, ◌∙◌, arith}
 use Rattle.std.proofs.lemmas.Bool.{eq-eqb, eqb-true, ne_eqb}
-use Rattle.js_tree.specs.Mark.{Mark}
+use Rattle.js_terms.specs.Mark.{Mark}
 use Rattle.js_tree.specs.Marked.{same_kind, one_if}
-use Rattle.js_tree.specs.declared.construct.ConstructKind.{ConstructKind}
-use Rattle.js_tree.specs.declared.construct.ConstructKind.TheVariants as construct_kind
+use Rattle.js_terms.specs.declared.construct.ConstructKind.{ConstructKind}
+use Rattle.js_terms.specs.declared.construct.ConstructKind.TheVariants as construct_kind
 use Rattle.js_counter.specs.Represents.{json_ticked}
 use Rattle.js_counted.specs.Files as counted
 use Rattle.js_counted.specs.Files.{counted_by}

@@ -1,6 +1,6 @@
 -- The data of a file's coverage count the entries of a log.
 use Rattle.std.specs.Prelude.{◌≡◌, ℕ, List}
-use Rattle.js_tree.specs.Mark.{Mark}
+use Rattle.js_terms.specs.Mark.{Mark}
 use Rattle.js_counted.specs.Files.{counted_by}
 use Rattle.js_counted.specs.Numbers.{AllCountable}
 use Rattle.cov_object.specs.Json.{file_data}

@@ -2,8 +2,8 @@
 use Rattle.std.proofs.Common.{◌≡◌, ℕ, zero, suc, ◌+◌, ◌-◌, ◌^◌, ◌<◌, List, [], ◌∷◌, map, Bool, true, false, if◌then◌else◌, ◌&&◌, nat_eq, Option, Some, None, codes, decimal, refl, sym, ap, ◌∙◌, arith}
 use Rattle.std.specs.Str.{chars}
 use Rattle.std.proofs.lemmas.Bool.{eq-eqb, ne_eqb}
-use Rattle.js_tree.specs.declared.construct.ConstructKind.TheVariants as construct_kind
-use Rattle.js_tree.specs.Mark.{Mark}
+use Rattle.js_terms.specs.declared.construct.ConstructKind.TheVariants as construct_kind
+use Rattle.js_terms.specs.Mark.{Mark}
 use Rattle.js_tree.specs.Marked.{one_if}
 use Rattle.js_value.specs.Functions.{name_units}
 use Rattle.js_value.proofs.IndexLemmas.{index_read}

@@ -1,9 +1,9 @@
 -- The coverage that is expected of a run, from what its meaning notes alone: each file started, with how often each of its
 -- constructs was entered.
 use Rattle.std.specs.Prelude.{ℕ, suc, ◌+◌, List, [], ◌∷◌, map}
-use Rattle.js_tree.specs.Mark.{Mark}
-use Rattle.js_tree.specs.declared.construct.ConstructKind.{ConstructKind}
-use Rattle.js_tree.specs.declared.construct.ConstructKind.TheVariants as construct_kind
+use Rattle.js_terms.specs.Mark.{Mark}
+use Rattle.js_terms.specs.declared.construct.ConstructKind.{ConstructKind}
+use Rattle.js_terms.specs.declared.construct.ConstructKind.TheVariants as construct_kind
 use Rattle.js_meaning.specs.World.{entered}
 use Rattle.cov_object.specs.Branch.{BranchCoverage}
 use Rattle.cov_object.specs.Files.{placed}

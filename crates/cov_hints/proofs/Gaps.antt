@@ -1,6 +1,6 @@
 -- Where white space ends.
 use Rattle.std.proofs.Common.{◌≡◌, ℕ, false, List, [], ◌∷◌, drop, slice_get, Some, None, refl, sym, ap, ◌∙◌}
-use Rattle.js_tree.specs.Blank.{is_gap}
+use Rattle.js_terms.specs.Blank.{is_gap}
 use Rattle.js_tree.specs.Comments.{skip_gap}
 
 first_is : (cs : List ℕ) (c : ℕ) → slice_get cs 0 ≡ Some c → cs ≡ c ∷ drop 1 cs

@@ -1,12 +1,12 @@
 ghost use Rattle.std.specs.Prelude.{◌≡◌, Some, None, if◌then◌else◌};
-ghost use Rattle.js_tree.specs.Blank as blank;
+ghost use Rattle.js_terms.specs.Blank as blank;
 ghost use Rattle.js_tree.specs.Comments as spec;
 
 use js_text::Cursor;
 use js_tree::Hint;
 
 // Whether a character is white space or ends a line.
-#[tactic(auto, unfolding(js_tree::specs::Blank::is_gap))]
+#[tactic(auto, unfolding(js_terms::specs::Blank::is_gap))]
 fn is_gap(character: char) -> bool
     ensures { result ≡ blank.is_gap character }
 {

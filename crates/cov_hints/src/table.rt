@@ -1,7 +1,7 @@
 ghost use Rattle.std.specs.Prelude.{◌≡◌, IfOk, OnOk};
 ghost use Rattle.cov_hints.specs.Table.{hint_in_table, noted};
 ghost use Rattle.js_tree.specs.Comments.{hint_before};
-ghost use Rattle.js_tree.specs.declared.place.Pos.{Pos};
+ghost use Rattle.js_terms.specs.declared.place.Pos.{Pos};
 
 use crate::pattern::hint_in_text;
 use items::Memory;

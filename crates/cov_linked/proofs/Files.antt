@@ -1,7 +1,7 @@
 -- A rewritten file, linked: whatever the numbers of its functions are, and of the file in its program.
 use Rattle.std.proofs.Common.{◌≡◌, ℕ, true, sym, ap, ◌∙◌}
 use Rattle.std.proofs.Math.Path.{fun_ext}
-use Rattle.js_tree.specs.Mark.{Mark}
+use Rattle.js_terms.specs.Mark.{Mark}
 use Rattle.js_tree.specs.Hints.{heed_comments}
 use Rattle.js_tree.specs.Linked.{Unmarked, Within, Numbers, Linked, made, link_stmts}
 use Rattle.js_tree.specs.Plain.{Expr, Stmts, MakeFile}

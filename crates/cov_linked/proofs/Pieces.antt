@@ -1,11 +1,11 @@
 -- What is put into a rewritten file, linked: the preamble has two functions, its data and the counters none.
 use Rattle.std.proofs.Common.{◌≡◌, ℕ, List, None, refl, ap, ◌∙◌}
 use Rattle.serde_json.specs.Data.{Data, Num, unsigned, negative, float, null, boolean, number, string, array, object, Items, no_items, item, Members, no_members, member}
-use Rattle.js_tree.specs.Mark.{Mark}
-use Rattle.js_tree.specs.declared.construct.ConstructKind.{ConstructKind}
-use Rattle.js_tree.specs.declared.construct.ConstructKind.TheVariants as construct_kind
-use Rattle.js_tree.specs.declared.operators.UpdateOperator.TheVariants as update
-use Rattle.js_tree.specs.declared.words.Spelled.{Spelled}
+use Rattle.js_terms.specs.Mark.{Mark}
+use Rattle.js_terms.specs.declared.construct.ConstructKind.{ConstructKind}
+use Rattle.js_terms.specs.declared.construct.ConstructKind.TheVariants as construct_kind
+use Rattle.js_terms.specs.declared.operators.UpdateOperator.TheVariants as update
+use Rattle.js_terms.specs.declared.words.Spelled.{Spelled}
 use Rattle.js_tree.specs.Linked.{Unmarked, Numbers, Linked, Chain, Alone, kept, made, two, after_code, link_expr, link_exprs, link_properties, link_stmts}
 use Rattle.js_tree.specs.Plain.{Expr, ArrayLiteral, ObjectLiteral, Call, PostfixUpdate, KeyValue, StringKey, no_expr, more_expr, more_property}
 use Rattle.cov_rewritten.specs.Counters.{name, counted_in}

@@ -1,7 +1,7 @@
 -- What linking a rewritten file reads of it, where nothing is counted.
 use Rattle.std.specs.Prelude.{◌≡◌, ℕ, List}
 use Rattle.serde_json.specs.Data.{Data}
-use Rattle.js_tree.specs.Mark.{Mark}
+use Rattle.js_terms.specs.Mark.{Mark}
 use Rattle.js_tree.specs.Linked.{Unmarked, Marked, Numbers, Chain, kept, after_code, link_expr, link_stmts, link_file}
 use Rattle.js_tree.specs.Plain.{Expr, Stmts, File}
 use Rattle.cov_rewritten.specs.Counters.{counter}

@@ -1,6 +1,6 @@
 -- One construct more gets its name after those before it.
 use Rattle.std.proofs.Common.{◌≡◌, ℕ, List, [], ◌∷◌, ◌++◌, refl, ap}
-use Rattle.js_tree.specs.declared.construct.Construct.{Construct}
+use Rattle.js_terms.specs.declared.construct.Construct.{Construct}
 use Rattle.js_walk.specs.Constructs.{named, number_after, all_named}
 
 -- how many functions come before what follows these, where so many come before them

@@ -1,7 +1,7 @@
 -- Parts of a text, from the places that a syntax tree tells.
 use Rattle.std.specs.Prelude.{Some}
-use Rattle.js_tree.specs.declared.place.Pos.{Pos}
-use Rattle.js_tree.specs.declared.place.Loc.{Loc}
+use Rattle.js_terms.specs.declared.place.Pos.{Pos}
+use Rattle.js_terms.specs.declared.place.Loc.{Loc}
 use Rattle.cov_object.specs.declared.location.Position.{Position}
 use Rattle.cov_object.specs.declared.location.Location.{Location}
 

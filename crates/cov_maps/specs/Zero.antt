@@ -1,11 +1,11 @@
 -- The coverage of a file in which nothing has run.
 use Rattle.std.specs.Prelude.{ℕ, List, [], ◌∷◌, map, Option, Some, None, codes}
 use Rattle.std.specs.List.{enumerate_from}
-use Rattle.js_tree.specs.declared.place.Loc.{Loc}
-use Rattle.js_tree.specs.declared.construct.BranchKind.{BranchKind}
-use Rattle.js_tree.specs.declared.construct.BranchKind.TheVariants as branch_kind
-use Rattle.js_tree.specs.declared.construct.Construct.{Construct}
-use Rattle.js_tree.specs.declared.construct.Construct.TheVariants as construct
+use Rattle.js_terms.specs.declared.place.Loc.{Loc}
+use Rattle.js_terms.specs.declared.construct.BranchKind.{BranchKind}
+use Rattle.js_terms.specs.declared.construct.BranchKind.TheVariants as branch_kind
+use Rattle.js_terms.specs.declared.construct.Construct.{Construct}
+use Rattle.js_terms.specs.declared.construct.Construct.TheVariants as construct
 use Rattle.cov_object.specs.Location.{nowhere}
 use Rattle.cov_maps.specs.Located.{location_at}
 use Rattle.cov_object.specs.declared.location.Location.{Location}

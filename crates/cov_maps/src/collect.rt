@@ -1,12 +1,12 @@
 ghost use Rattle.std.specs.Prelude.{◌≡◌, ◌++◌, IfOk};
 ghost use Rattle.cov_hints.specs.Left.{left_of};
 ghost use Rattle.cov_maps.specs.private.Told.{told_of};
-ghost use Rattle.js_tree.specs.declared.construct.Construct.{Construct};
+ghost use Rattle.js_terms.specs.declared.construct.Construct.{Construct};
 ghost use Rattle.js_tree.specs.Tree.{plain_expr, plain_file, plain_stmt};
 ghost use Rattle.cov_hints.specs.Table.{hint_in_table};
 ghost use Rattle.js_tree.specs.Comments.{hint_before};
 ghost use Rattle.js_tree.specs.Hints.{heed_comments};
-ghost use Rattle.js_tree.specs.declared.place.Pos.{Pos};
+ghost use Rattle.js_terms.specs.declared.place.Pos.{Pos};
 ghost use Rattle.js_walk.specs.Constructs.{Told, constructs_file, left_in, own_construct, own_expr, own_stmt, tell, told};
 ghost use Rattle.js_walk.specs.Part.{AnExpr};
 ghost use Rattle.js_walk.specs.Walk.{walk_file};

@@ -1,8 +1,8 @@
 -- Parts of the preamble, by themselves.
 use Rattle.std.specs.Prelude.{ℕ, List, [], Option, Some, None, codes}
-use Rattle.js_tree.specs.declared.operators.BinaryOperator.TheVariants as binary
-use Rattle.js_tree.specs.declared.operators.LogicalOperator.TheVariants as logic
-use Rattle.js_tree.specs.declared.operators.UnaryOperator.TheVariants as unary
+use Rattle.js_terms.specs.declared.operators.BinaryOperator.TheVariants as binary
+use Rattle.js_terms.specs.declared.operators.LogicalOperator.TheVariants as logic
+use Rattle.js_terms.specs.declared.operators.UnaryOperator.TheVariants as unary
 use Rattle.js_tree.specs.Plain.{Expr, ObjectLiteral, FunctionExpression, Parenthesized, NamedMember, Call, Unary, Binary, Logical, Stmt, Block, FunctionDeclaration, MakeFunction, MakeFunctionBody, KeyValue, StringKey, Property, Properties, push_properties, no_expr, no_property, no_param, Stmts, no_stmt, more_stmt}
 use Rattle.serde_json.specs.Data.{Data, string}
 use Rattle.cov_object.specs.Json as json

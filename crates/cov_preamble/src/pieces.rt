@@ -1,7 +1,7 @@
 ghost use Rattle.std.specs.Prelude.{◌≡◌, None, Some, IfOk, OnOk};
-ghost use Rattle.js_tree.specs.declared.operators.BinaryOperator.TheVariants as binary;
-ghost use Rattle.js_tree.specs.declared.operators.LogicalOperator.TheVariants as logic;
-ghost use Rattle.js_tree.specs.declared.operators.UnaryOperator.TheVariants as unary;
+ghost use Rattle.js_terms.specs.declared.operators.BinaryOperator.TheVariants as binary;
+ghost use Rattle.js_terms.specs.declared.operators.LogicalOperator.TheVariants as logic;
+ghost use Rattle.js_terms.specs.declared.operators.UnaryOperator.TheVariants as unary;
 ghost use Rattle.js_tree.specs.Plain as tree;
 ghost use Rattle.js_tree.specs.Tree.{plain_declarator, plain_expr, plain_expr_node, plain_function, plain_stmt, plain_stmt_node, plain_stmts};
 ghost use Rattle.cov_rewritten.specs.Counters as counters;

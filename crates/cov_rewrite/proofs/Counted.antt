@@ -1,12 +1,12 @@
 -- A statement that is none of these forms is counted itself, and an expression that is none of those is a leaf.
 use Rattle.std.proofs.Common.{◌≡◌, Bool, true, false, List, Option, refl, sym, ap, subst, ◌∙◌}
-use Rattle.js_tree.specs.declared.operators.AssignmentOperator.{AssignmentOperator}
-use Rattle.js_tree.specs.declared.operators.BinaryOperator.{BinaryOperator}
-use Rattle.js_tree.specs.declared.operators.LogicalOperator.{LogicalOperator}
-use Rattle.js_tree.specs.declared.operators.UnaryOperator.{UnaryOperator}
-use Rattle.js_tree.specs.declared.operators.UpdateOperator.{UpdateOperator}
-use Rattle.js_tree.specs.declared.operators.VariableKind.{VariableKind}
-use Rattle.js_tree.specs.declared.place.Loc.{Loc}
+use Rattle.js_terms.specs.declared.operators.AssignmentOperator.{AssignmentOperator}
+use Rattle.js_terms.specs.declared.operators.BinaryOperator.{BinaryOperator}
+use Rattle.js_terms.specs.declared.operators.LogicalOperator.{LogicalOperator}
+use Rattle.js_terms.specs.declared.operators.UnaryOperator.{UnaryOperator}
+use Rattle.js_terms.specs.declared.operators.UpdateOperator.{UpdateOperator}
+use Rattle.js_terms.specs.declared.operators.VariableKind.{VariableKind}
+use Rattle.js_terms.specs.declared.place.Loc.{Loc}
 use Rattle.js_tree.specs.declared.tree.ConciseBody.{ConciseBody}
 use Rattle.js_tree.specs.declared.tree.ExprNode.{ExprNode}
 use Rattle.js_tree.specs.declared.tree.ForInit.{ForInit}
@@ -28,8 +28,8 @@ use Rattle.js_tree.specs.declared.tree.ExprNode.TheVariants as expr_node
 use Rattle.js_tree.specs.declared.tree.StmtNode.TheVariants as stmt_node
 use Rattle.js_tree.specs.declared.tree.ConciseBody.TheOpen.{ExprNode-F, StmtNode-F}
 use Rattle.js_tree.specs.declared.tree.ConciseBody.TheViews.{roll-ExprNode, out-ExprNode, roll-out-ExprNode, roll-StmtNode, out-StmtNode, roll-out-StmtNode}
-use Rattle.js_tree.specs.declared.words.Identifier.{Identifier}
-use Rattle.js_tree.specs.declared.words.Spelled.{Spelled}
+use Rattle.js_terms.specs.declared.words.Identifier.{Identifier}
+use Rattle.js_terms.specs.declared.words.Spelled.{Spelled}
 use Rattle.js_tree.specs.Tree.{plain_expr_node, plain_stmt_node}
 use Rattle.js_tree.proofs.Equations.{expr_array_literal, expr_arrow_function, expr_assignment, expr_binary, expr_boolean_literal, expr_call, expr_comma, expr_computed_member, expr_conditional, expr_function_expression, expr_identifier_reference, expr_named_member, expr_new, expr_null_literal, expr_numeric_literal, expr_object_literal, expr_postfix_update, expr_prefix_update, expr_regular_expression_literal, expr_string_literal, expr_template_literal, expr_this, expr_unary, stmt_block, stmt_break, stmt_continue, stmt_debugger, stmt_directive, stmt_do_while, stmt_empty, stmt_expression, stmt_for, stmt_for_in, stmt_for_of, stmt_function_declaration, stmt_if, stmt_labelled, stmt_return, stmt_switch, stmt_throw, stmt_try_catch, stmt_try_catch_finally, stmt_try_finally, stmt_variable_declaration, stmt_while}
 use Rattle.cov_rewrite.specs.Made as made

@@ -1,11 +1,11 @@
 -- What is made of a node, from what is made of its parts.
 use Rattle.std.proofs.Common.{◌≡◌, ◌+◌, ◌++◌, ◌||◌, ℕ, Bool, true, false, Option, None, length, refl, ap, sym, ◌∙◌}
-use Rattle.js_tree.specs.declared.construct.ConstructKind.TheVariants as construct_kind
-use Rattle.js_tree.specs.declared.place.Loc.{Loc}
+use Rattle.js_terms.specs.declared.construct.ConstructKind.TheVariants as construct_kind
+use Rattle.js_terms.specs.declared.place.Loc.{Loc}
 use Rattle.js_tree.specs.declared.hint.Hint.TheVariants as hint
 use Rattle.js_tree.specs.Hints.{Heed, heed, heed_arm, leaf_paths}
 use Rattle.js_tree.specs.Linked.{Counts, function_place}
-use Rattle.js_tree.specs.Mark.{Mark}
+use Rattle.js_terms.specs.Mark.{Mark}
 use Rattle.js_tree.specs.Places.{body_place, stmt_if_place, stmt_place}
 use Rattle.js_tree.specs.Plain.{Expr, Conditional, Stmt, Stmts, MaybeStmt, If, Switch, Cases, PropertyKey, Property, Method, Function, MakeFunction}
 use Rattle.cov_rewritten.specs.Rewritten.{counted, counts}

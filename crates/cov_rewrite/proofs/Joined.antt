@@ -1,7 +1,7 @@
 -- Statements one after the other, and blocks.
 use Rattle.std.proofs.Common.{◌≡◌, ◌++◌, ◌∷◌, [], List, Bool, true, false, Option, None, refl, ap, sym, ◌∙◌}
 use Rattle.js_tree.specs.declared.tree.Stmt.{Stmt}
-use Rattle.js_tree.specs.Mark.{Mark}
+use Rattle.js_terms.specs.Mark.{Mark}
 use Rattle.js_tree.specs.Plain as tree
 use Rattle.js_tree.specs.Tree.{plain_stmt, plain_stmts}
 use Rattle.js_tree.proofs.Equations.{tree_rules}

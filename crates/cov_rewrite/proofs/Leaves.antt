@@ -1,11 +1,11 @@
 -- What becomes of a leaf of a chain of logical operators.
 use Rattle.std.proofs.Common.{◌≡◌, ◌+◌, ℕ, suc, Bool, true, false, length, Option, refl, ap, ◌∙◌, arith}
 use Rattle.std.proofs.lemmas.List.{length-append}
-use Rattle.js_tree.specs.declared.operators.LogicalOperator.{LogicalOperator}
-use Rattle.js_tree.specs.declared.place.Loc.{Loc}
+use Rattle.js_terms.specs.declared.operators.LogicalOperator.{LogicalOperator}
+use Rattle.js_terms.specs.declared.place.Loc.{Loc}
 use Rattle.js_tree.specs.Hints.{Heed, Ignored, Heeding, leaf_paths}
 use Rattle.js_tree.specs.Linked.{Counts}
-use Rattle.js_tree.specs.Mark.{Mark}
+use Rattle.js_terms.specs.Mark.{Mark}
 use Rattle.js_tree.specs.Plain.{Expr, Logical, Parenthesized, Entered, Stmt, Directive, Block, VariableDeclaration, Empty, Labelled, FunctionDeclaration, EnteredStmt}
 use Rattle.cov_rewritten.specs.Rewritten.{counted}
 use Rattle.cov_rewrite.specs.Made as made

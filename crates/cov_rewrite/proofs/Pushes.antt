@@ -1,7 +1,7 @@
 -- What the code makes of a list with one more at its end.
 use Rattle.std.proofs.Common.{◌≡◌, ◌++◌, ◌∷◌, [], ◌+◌, ◌||◌, ℕ, List, Bool, true, false, Option, Some, None, refl, ap, sym, ◌∙◌}
 use Rattle.js_tree.specs.Hints.{Heed, heed}
-use Rattle.js_tree.specs.Mark.{Mark}
+use Rattle.js_terms.specs.Mark.{Mark}
 use Rattle.js_tree.specs.Places.{stmt_place, property_place, param_place, declarator_place, case_place}
 use Rattle.js_tree.specs.Linked.{Counts}
 use Rattle.js_tree.specs.Plain.{Expr, Exprs, no_expr, more_expr, push_exprs, TemplatePart, TemplateParts, no_template_part, more_template_part, push_template_parts, Property, Properties, no_property, more_property, push_properties}

@@ -1,10 +1,10 @@
 -- One turn of each loop over a list of the tree: what is out and the numbers stay those of what is taken.
 use Rattle.std.proofs.Common.{◌≡◌, ℕ, Bool, false, Option, List, refl, sym, ap, ◌∙◌}
-use Rattle.js_tree.specs.declared.construct.ConstructKind.TheVariants as construct_kind
-use Rattle.js_tree.specs.declared.place.Loc.{Loc}
+use Rattle.js_terms.specs.declared.construct.ConstructKind.TheVariants as construct_kind
+use Rattle.js_terms.specs.declared.place.Loc.{Loc}
 use Rattle.js_tree.specs.Hints.{Heed, heed}
 use Rattle.js_tree.specs.Linked.{Counts}
-use Rattle.js_tree.specs.Mark.{Mark}
+use Rattle.js_terms.specs.Mark.{Mark}
 use Rattle.js_tree.specs.Places.{expr_place, stmt_place, property_place, param_place, declarator_place, case_place}
 use Rattle.js_tree.specs.Plain.{Expr, Exprs, push_exprs, TemplatePart, TemplateParts, push_template_parts, Property, Properties, push_properties, Param, Params, push_params, Stmt, Stmts, push_stmts, Declarator, Declarators, push_declarators, Case, Cases, push_cases}
 use Rattle.cov_rewritten.specs.Rewritten.{joined, counts}

@@ -1,10 +1,10 @@
 -- What is made of a part at a site that is as the one here, and of the forms that hold one value: a default, an initializer, an arrow's expression, a method.
 use Rattle.std.proofs.Common.{◌≡◌, ◌++◌, ℕ, Bool, false, List, Option, None, refl, ap, sym, ◌∙◌}
-use Rattle.js_tree.specs.declared.construct.ConstructKind.TheVariants as construct_kind
-use Rattle.js_tree.specs.declared.place.Loc.{Loc}
+use Rattle.js_terms.specs.declared.construct.ConstructKind.TheVariants as construct_kind
+use Rattle.js_terms.specs.declared.place.Loc.{Loc}
 use Rattle.js_tree.specs.Hints.{Heed}
 use Rattle.js_tree.specs.Linked.{Counts, function_place}
-use Rattle.js_tree.specs.Mark.{Mark}
+use Rattle.js_terms.specs.Mark.{Mark}
 use Rattle.js_tree.specs.Places.{bare_place, body_place, concise_place}
 use Rattle.js_tree.specs.Plain.{Expr, ArrowFunction, Conditional, Stmt, Stmts, MaybeStmt, ConciseBody, ExpressionBody, PropertyKey, Property, Method, Function, Pattern, Param, Params, MakeParam, Declarator, MakeDeclarator, some_expr}
 use Rattle.cov_rewritten.specs.Rewritten.{is_anonymous, bound_name, joined, counts, counted, held, initial}

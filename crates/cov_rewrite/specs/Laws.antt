@@ -1,6 +1,6 @@
 -- What the code makes of a file is the linked file, rewritten.
 use Rattle.std.specs.Prelude.{◌≡◌}
-use Rattle.js_tree.specs.Mark.{Mark}
+use Rattle.js_terms.specs.Mark.{Mark}
 use Rattle.js_tree.specs.Linked.{Numbers, Marked, link_file}
 use Rattle.js_tree.specs.Plain.{Expr, Stmts, File}
 use Rattle.cov_rewritten.specs.Rewritten.{rewritten_file}

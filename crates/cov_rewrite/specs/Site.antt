@@ -1,6 +1,6 @@
 -- What the code's word on where it is stands for.
 use Rattle.js_tree.specs.Hints.{Heed}
-use Rattle.js_tree.specs.Mark.{Mark}
+use Rattle.js_terms.specs.Mark.{Mark}
 use Rattle.js_tree.specs.Plain.{Expr}
 use Rattle.cov_hints.specs.Left.{left_of}
 use Rattle.cov_rewritten.specs.Counters.{counter}

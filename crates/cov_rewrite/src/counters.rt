@@ -1,6 +1,6 @@
 ghost use Rattle.std.specs.Prelude.{◌≡◌, None, IfOk, codes};
-ghost use Rattle.js_tree.specs.declared.construct.ConstructKind.TheVariants as construct_kind;
-ghost use Rattle.js_tree.specs.declared.operators.UpdateOperator.TheVariants as update;
+ghost use Rattle.js_terms.specs.declared.construct.ConstructKind.TheVariants as construct_kind;
+ghost use Rattle.js_terms.specs.declared.operators.UpdateOperator.TheVariants as update;
 ghost use Rattle.js_tree.specs.Linked.{mark};
 ghost use Rattle.js_tree.specs.Plain as tree;
 ghost use Rattle.js_tree.specs.Tree.{plain_expr, plain_pattern, plain_stmt, plain_stmts};

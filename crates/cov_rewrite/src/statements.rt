@@ -1,5 +1,5 @@
 ghost use Rattle.std.specs.Prelude.{◌≡◌, ◌++◌, true, false, IfOk};
-ghost use Rattle.js_tree.specs.declared.construct.ConstructKind.TheVariants as construct_kind;
+ghost use Rattle.js_terms.specs.declared.construct.ConstructKind.TheVariants as construct_kind;
 ghost use Rattle.js_tree.specs.Hints.{heed};
 ghost use Rattle.js_tree.specs.Linked.{Counts};
 ghost use Rattle.js_tree.specs.Places.{stmt_place};

@@ -12,7 +12,7 @@ ghost use Rattle.cov_rewritten.specs.Preamble as preambles;
 ghost use Rattle.cov_rewritten.specs.Whole.{from_zero, rewritten};
 ghost use Rattle.cov_hints.specs.Table.{hint_in_table};
 ghost use Rattle.js_tree.specs.Comments.{hint_before};
-ghost use Rattle.js_tree.specs.declared.place.Pos.{Pos};
+ghost use Rattle.js_terms.specs.declared.place.Pos.{Pos};
 ghost use Rattle.cov_rewrite.specs.Made as made;
 
 use crate::blocks::after_directives;

@@ -1,12 +1,12 @@
 -- The laws on whole files.
 use Rattle.std.proofs.Common.{◌≡◌, ◌*◌, ◌≤◌, ◌++◌, ◌∷◌, [], ℕ, true, false, List, None, max, codes, refl, sym, ap, ◌∙◌, append_assoc, arith}
 use Rattle.serde_json.specs.Data.{Data, null, boolean, number, string, array, object, unsigned, negative, float, Items, no_items, item, Members, no_members, member}
-use Rattle.js_tree.specs.declared.construct.ConstructKind.TheVariants as construct_kind
+use Rattle.js_terms.specs.declared.construct.ConstructKind.TheVariants as construct_kind
 use Rattle.js_tree.specs.Codes.{Code, Ordinary, functions_expr, functions_exprs, functions_properties, functions_stmt, functions_stmts}
 use Rattle.js_tree.specs.Height.{height_expr, height_stmts}
 use Rattle.js_tree.specs.Linked.{Marked, with_comments, link_stmts}
-use Rattle.js_tree.specs.Mark.{Mark}
-use Rattle.js_tree.specs.declared.words.Spelled.{Spelled}
+use Rattle.js_terms.specs.Mark.{Mark}
+use Rattle.js_terms.specs.declared.words.Spelled.{Spelled}
 use Rattle.js_tree.specs.Plain.{Expr, MakeFunction, MakeFunctionBody, no_param, Stmts, no_stmt, more_stmt, Directive, MakeFile}
 use Rattle.js_reading.specs.Outside.{is_there}
 use Rattle.cov_rewritten.specs.Counters.{counter, name}

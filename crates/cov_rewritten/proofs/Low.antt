@@ -1,6 +1,6 @@
 -- How high a rewritten tree is: eight levels at most for each of the source.
 use Rattle.std.proofs.Common.{◌≡◌, ◌≤◌, ◌*◌, ◌+◌, ◌++◌, max, ℕ, Bool, true, false, List, [], ◌∷◌, None, refl, arith}
-use Rattle.js_tree.specs.Mark.{Mark}
+use Rattle.js_terms.specs.Mark.{Mark}
 use Rattle.js_tree.specs.Plain.{Expr, FunctionExpression, Entered}
 use Rattle.js_tree.specs.Plain.{Stmt, Directive, Block, Return, FunctionDeclaration, EnteredStmt}
 use Rattle.js_tree.specs.Plain.{Property}

@@ -3,7 +3,7 @@ use Rattle.std.proofs.Common.{ℕ, false, List, refl, arith}
 use Rattle.std.specs.Prelude.{codes}
 use Rattle.std.specs.Str.{chars}
 use Rattle.unicode_ident.proofs.Computing.{unicode_ident}
-use Rattle.js_tree.specs.declared.words.Spelled.{Spelled}
+use Rattle.js_terms.specs.declared.words.Spelled.{Spelled}
 use Rattle.js_tree.specs.Plain.{Expr}
 use Rattle.js_text.specs.Character.{is_gap, starts_identifier, continues_identifier, is_digit}
 use Rattle.js_text.specs.Lex.{common_token}

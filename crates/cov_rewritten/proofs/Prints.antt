@@ -1,11 +1,11 @@
 -- A rewritten file can be printed where the source can, if what is put in is spelt as tokens are.
 use Rattle.std.proofs.Common.{Option, ◌≡◌, ◌++◌, ◌∷◌, [], ℕ, Bool, true, false, List, None, refl, ap, ◌∙◌}
-use Rattle.js_tree.specs.declared.construct.ConstructKind.{ConstructKind}
-use Rattle.js_tree.specs.declared.construct.ConstructKind.TheVariants as construct_kind
-use Rattle.js_tree.specs.declared.operators.UpdateOperator.TheVariants as update
-use Rattle.js_tree.specs.declared.operators.VariableKind.TheVariants as variable
-use Rattle.js_tree.specs.Mark.{Mark}
-use Rattle.js_tree.specs.declared.place.Loc.{Loc}
+use Rattle.js_terms.specs.declared.construct.ConstructKind.{ConstructKind}
+use Rattle.js_terms.specs.declared.construct.ConstructKind.TheVariants as construct_kind
+use Rattle.js_terms.specs.declared.operators.UpdateOperator.TheVariants as update
+use Rattle.js_terms.specs.declared.operators.VariableKind.TheVariants as variable
+use Rattle.js_terms.specs.Mark.{Mark}
+use Rattle.js_terms.specs.declared.place.Loc.{Loc}
 use Rattle.js_tree.specs.Plain.{Expr, Call, PostfixUpdate}
 use Rattle.js_tree.specs.Plain.{Stmt, Directive, Block, Return}
 use Rattle.js_tree.specs.Plain.{Property}

@@ -3,11 +3,11 @@ use Rattle.std.specs.Prelude.{◌≡◌, ℕ, List, [], ◌∷◌, ◌++◌, Opt
 use Rattle.std.specs.Fmt.{digits}
 use Rattle.std.specs.Str.{chars}
 use Rattle.unicode_ident.proofs.Computing.{unicode_ident}
-use Rattle.js_tree.specs.declared.place.Loc.{Loc}
-use Rattle.js_tree.specs.declared.construct.ConstructKind.TheVariants as construct_kind
-use Rattle.js_tree.specs.declared.words.Identifier.{Identifier}
-use Rattle.js_tree.specs.declared.operators.VariableKind.TheVariants as variable
-use Rattle.js_tree.specs.declared.operators.LogicalOperator.TheVariants as logic
+use Rattle.js_terms.specs.declared.place.Loc.{Loc}
+use Rattle.js_terms.specs.declared.construct.ConstructKind.TheVariants as construct_kind
+use Rattle.js_terms.specs.declared.words.Identifier.{Identifier}
+use Rattle.js_terms.specs.declared.operators.VariableKind.TheVariants as variable
+use Rattle.js_terms.specs.declared.operators.LogicalOperator.TheVariants as logic
 use Rattle.js_tree.specs.Plain.{Expr, IdentifierReference, NumericLiteral, FunctionExpression, ArrowFunction, ObjectLiteral, Parenthesized, NamedMember, Call, Logical, Conditional}
 use Rattle.js_tree.specs.Plain.{Stmt, Block, VariableDeclaration, Expression, If, While, For, Continue, Return, Switch, Labelled, Throw, FunctionDeclaration, Empty, InitDeclaration}
 use Rattle.js_tree.specs.Plain.{ExpressionBody, MakeFunction, MakeFunctionBody, MakeParam, MakeDeclarator, MakeCase, BindingIdentifier, no_property, none_expr, some_expr, none_stmt, entered_none, no_expr, more_expr, no_param, more_param, Stmts, no_stmt, more_stmt, Declarator, Declarators, no_declarator, more_declarator, no_case, more_case, MakeFile}

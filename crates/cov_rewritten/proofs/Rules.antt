@@ -3,18 +3,18 @@ use Rattle.std.proofs.Common.{◌≡◌, ◌++◌, ◌∷◌, [], ℕ, Bool, tru
 use Rattle.std.specs.List.{list_any}
 use Rattle.std.specs.Str.{bytes_eq}
 use Rattle.serde_json.specs.Data.{Data, null, boolean, number, string, array, object, unsigned, negative, float, Items, no_items, item, Members, no_members, member}
-use Rattle.js_tree.specs.declared.construct.ConstructKind.{ConstructKind}
-use Rattle.js_tree.specs.declared.construct.ConstructKind.TheVariants as construct_kind
-use Rattle.js_tree.specs.declared.operators.LogicalOperator.TheVariants as logic
-use Rattle.js_tree.specs.declared.operators.BinaryOperator.TheVariants as binary
-use Rattle.js_tree.specs.declared.operators.UnaryOperator.TheVariants as unary
-use Rattle.js_tree.specs.declared.operators.UpdateOperator.TheVariants as update
-use Rattle.js_tree.specs.declared.operators.VariableKind.{VariableKind}
-use Rattle.js_tree.specs.declared.operators.VariableKind.TheVariants as variable
-use Rattle.js_tree.specs.declared.place.Pos.{Pos}
-use Rattle.js_tree.specs.declared.words.Spelled.{Spelled}
+use Rattle.js_terms.specs.declared.construct.ConstructKind.{ConstructKind}
+use Rattle.js_terms.specs.declared.construct.ConstructKind.TheVariants as construct_kind
+use Rattle.js_terms.specs.declared.operators.LogicalOperator.TheVariants as logic
+use Rattle.js_terms.specs.declared.operators.BinaryOperator.TheVariants as binary
+use Rattle.js_terms.specs.declared.operators.UnaryOperator.TheVariants as unary
+use Rattle.js_terms.specs.declared.operators.UpdateOperator.TheVariants as update
+use Rattle.js_terms.specs.declared.operators.VariableKind.{VariableKind}
+use Rattle.js_terms.specs.declared.operators.VariableKind.TheVariants as variable
+use Rattle.js_terms.specs.declared.place.Pos.{Pos}
+use Rattle.js_terms.specs.declared.words.Spelled.{Spelled}
 use Rattle.js_tree.specs.Linked.{Marked, with_comments, link_stmts}
-use Rattle.js_tree.specs.Mark.{Mark}
+use Rattle.js_terms.specs.Mark.{Mark}
 use Rattle.js_tree.specs.Plain.{Expr, StringLiteral, ObjectLiteral, Parenthesized, NamedMember, ComputedMember, Call, PostfixUpdate, Unary, Binary, Logical}
 use Rattle.js_tree.specs.Plain.{Stmt, Directive, Block, VariableDeclaration, If, DoWhile, While, For, ForIn, ForOf, Switch, Labelled, TryCatch, TryFinally, TryCatchFinally, FunctionDeclaration, EnteredStmt}
 use Rattle.js_tree.specs.Plain.{ForInit, NoInit, InitDeclaration, InitExpression}

@@ -1,7 +1,7 @@
 -- `this` stands outside functions in a rewritten tree only where it does in the source.
 use Rattle.std.proofs.Common.{◌≡◌, ◌++◌, ◌∷◌, [], ℕ, Bool, true, false, List, Option, None, refl}
-use Rattle.js_tree.specs.Mark.{Mark}
-use Rattle.js_tree.specs.declared.place.Loc.{Loc}
+use Rattle.js_terms.specs.Mark.{Mark}
+use Rattle.js_terms.specs.declared.place.Loc.{Loc}
 use Rattle.js_tree.specs.Plain.{Expr}
 use Rattle.js_tree.specs.Plain.{Stmt, Directive, Block, Return}
 use Rattle.js_tree.specs.Plain.{Property}

@@ -1,7 +1,7 @@
 -- A value of JSON is spelt as an expression is, and how high that is.
 use Rattle.std.proofs.Common.{◌≤◌, ◌*◌, ◌+◌, max, ℕ, List, arith}
 use Rattle.serde_json.specs.Data.{Num, unsigned, negative, float, Data, null, boolean, number, string, array, object, Items, no_items, item, Members, no_members, member, depth, items_depth, members_depth}
-use Rattle.js_tree.specs.declared.words.Spelled.{Spelled}
+use Rattle.js_terms.specs.declared.words.Spelled.{Spelled}
 use Rattle.js_tree.specs.Plain.{Expr}
 use Rattle.js_tree.specs.Height.{height_expr, height_exprs, height_properties, height_stmts}
 use Rattle.js_layout.specs.Printable.{IsExpr, AreExprs, AreProperties}

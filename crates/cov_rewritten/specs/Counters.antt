@@ -1,10 +1,10 @@
 -- What is put into a file for its marks: the code that counts, with the name N of the file's function.
 use Rattle.std.specs.Prelude.{ℕ, ◌^◌, nat_lt, List, [], ◌∷◌, ◌++◌, None, codes, decimal, if◌then◌else◌}
-use Rattle.js_tree.specs.declared.construct.ConstructKind.{ConstructKind}
-use Rattle.js_tree.specs.declared.construct.ConstructKind.TheVariants as construct_kind
-use Rattle.js_tree.specs.declared.operators.UpdateOperator.TheVariants as update
-use Rattle.js_tree.specs.declared.words.Spelled.{Spelled}
-use Rattle.js_tree.specs.Mark.{Mark}
+use Rattle.js_terms.specs.declared.construct.ConstructKind.{ConstructKind}
+use Rattle.js_terms.specs.declared.construct.ConstructKind.TheVariants as construct_kind
+use Rattle.js_terms.specs.declared.operators.UpdateOperator.TheVariants as update
+use Rattle.js_terms.specs.declared.words.Spelled.{Spelled}
+use Rattle.js_terms.specs.Mark.{Mark}
 use Rattle.js_tree.specs.Plain.{Expr, IdentifierReference, NumericLiteral, StringLiteral, ObjectLiteral, Parenthesized, NamedMember, ComputedMember, Call, PostfixUpdate, Comma, KeyValue, ComputedKey, no_expr, no_property, more_property}
 use Rattle.js_reading.specs.Productions.{string_of}
 

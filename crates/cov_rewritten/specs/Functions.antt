@@ -1,6 +1,6 @@
 -- The functions of a rewritten tree.
 use Rattle.std.specs.Prelude.{ℕ}
-use Rattle.js_tree.specs.Mark.{Mark}
+use Rattle.js_terms.specs.Mark.{Mark}
 use Rattle.js_tree.specs.Codes.{Code, Ordinary, OfMethod, Arrow}
 use Rattle.js_tree.specs.Plain.{Expr}
 use Rattle.cov_rewritten.specs.Rewritten.{rewritten_function, rewritten_params, rewritten_concise_body}

@@ -4,12 +4,12 @@ use Rattle.std.specs.Prelude.{ℕ, List, drop, None, codes}
 use Rattle.std.specs.Fmt.{signed_decimal}
 use Rattle.serde_json.specs.Data.{Data, null, boolean, number, string, array, object, Num, unsigned, negative, float, Items, no_items, item, Members, no_members, member}
 use Rattle.serde_json.specs.Written.{compact_text}
-use Rattle.js_tree.specs.declared.operators.AssignmentOperator.TheVariants as assign
-use Rattle.js_tree.specs.declared.operators.BinaryOperator.TheVariants as binary
-use Rattle.js_tree.specs.declared.operators.LogicalOperator.TheVariants as logic
-use Rattle.js_tree.specs.declared.operators.UnaryOperator.TheVariants as unary
-use Rattle.js_tree.specs.declared.operators.VariableKind.TheVariants as variable
-use Rattle.js_tree.specs.declared.words.Spelled.{Spelled}
+use Rattle.js_terms.specs.declared.operators.AssignmentOperator.TheVariants as assign
+use Rattle.js_terms.specs.declared.operators.BinaryOperator.TheVariants as binary
+use Rattle.js_terms.specs.declared.operators.LogicalOperator.TheVariants as logic
+use Rattle.js_terms.specs.declared.operators.UnaryOperator.TheVariants as unary
+use Rattle.js_terms.specs.declared.operators.VariableKind.TheVariants as variable
+use Rattle.js_terms.specs.declared.words.Spelled.{Spelled}
 use Rattle.js_tree.specs.Plain.{Expr, NullLiteral, BooleanLiteral, NumericLiteral, StringLiteral, ArrayLiteral, ObjectLiteral, FunctionExpression, Parenthesized, NamedMember, ComputedMember, Call, Unary, Binary, Logical, Assignment}
 use Rattle.js_tree.specs.Plain.{Stmt, Block, VariableDeclaration, Expression, If, Return, FunctionDeclaration, MakeFunction, MakeFunctionBody, MakeDeclarator, BindingIdentifier, KeyValue, StringKey}
 use Rattle.js_tree.specs.Plain.{some_expr, none_stmt, Exprs, no_expr, more_expr, Properties, no_property, more_property, no_param, Stmts, no_stmt, more_stmt, no_declarator, more_declarator}

@@ -3,7 +3,7 @@ use Rattle.std.specs.Prelude.{◌≡◌, ℕ, Bool, not, ◌||◌, true, false, 
 use Rattle.serde_json.specs.Data.{Data}
 use Rattle.js_tree.specs.Comments.{ignores_file}
 use Rattle.js_tree.specs.Plain.{File, MakeFile}
-use Rattle.js_tree.specs.declared.words.Comment.{Comment}
+use Rattle.js_terms.specs.declared.words.Comment.{Comment}
 use Rattle.js_walk.specs.Constructs.{constructs_file}
 use Rattle.js_layout.specs.Layout.{layout}
 use Rattle.js_scopes.specs.Accepted.{Accepted}

@@ -3,7 +3,7 @@ use Rattle.std.proofs.Common.{◌≡◌, ℕ, zero, suc, ◌+◌, ◌-◌, ◌<�
 use Rattle.std.specs.Prelude.{nat_le}
 use Rattle.std.specs.List.{slice_get}
 use Rattle.std.proofs.Common.{Some}
-use Rattle.js_tree.specs.declared.place.Pos.{Pos}
+use Rattle.js_terms.specs.declared.place.Pos.{Pos}
 use Rattle.js_text.specs.Place.{Place}
 use Rattle.js_text.specs.Position.{position_of, utf16_units, saturated, lines_ended}
 use Rattle.std.proofs.lemmas.Option.{get_or_from_slice_get}

@@ -10,17 +10,17 @@ use Rattle.js_tree.specs.Plain.{Stmt, Directive, Block, VariableDeclaration, Emp
 use Rattle.js_tree.specs.Plain.{Declarator, MakeDeclarator, Declarators, no_declarator, more_declarator, ForInit, NoInit, InitDeclaration, InitExpression, ForTarget, TargetDeclaration, TargetExpression, Cases, no_case, more_case, Case, MakeCase, EnteredCase, Catch, MakeCatch, MaybePattern, none_pattern, some_pattern, BindingIdentifier}
 use Rattle.js_tree.specs.Plain.{FunctionBody, MakeFunctionBody, EnteredBody, ConciseBody, ExpressionBody, BlockBody, MakeFunction, Params, no_param, more_param, MakeParam, MakeFile}
 use Rattle.js_tree.specs.Same.{bare_pattern_if, bare_expr, bare_exprs, bare_expr_if, bare_property, bare_properties, bare_property_key, bare_template_parts, bare_concise_body, bare_function_body, bare_params, bare_stmt, bare_stmts, bare_stmt_if, bare_declarator, bare_declarators, bare_for_init, bare_for_target, bare_case, bare_cases, bare_catch, bare_file}
-use Rattle.js_tree.specs.declared.operators.BinaryOperator.{BinaryOperator}
-use Rattle.js_tree.specs.declared.operators.BinaryOperator.TheVariants as binary_operator
-use Rattle.js_tree.specs.declared.operators.LogicalOperator.{LogicalOperator}
-use Rattle.js_tree.specs.declared.operators.LogicalOperator.TheVariants as logical
-use Rattle.js_tree.specs.declared.operators.UnaryOperator.{UnaryOperator}
-use Rattle.js_tree.specs.declared.operators.UnaryOperator.TheVariants as unary_operator
-use Rattle.js_tree.specs.declared.operators.UpdateOperator.{UpdateOperator}
-use Rattle.js_tree.specs.declared.operators.VariableKind.{VariableKind}
-use Rattle.js_tree.specs.declared.operators.VariableKind.TheVariants as variable
+use Rattle.js_terms.specs.declared.operators.BinaryOperator.{BinaryOperator}
+use Rattle.js_terms.specs.declared.operators.BinaryOperator.TheVariants as binary_operator
+use Rattle.js_terms.specs.declared.operators.LogicalOperator.{LogicalOperator}
+use Rattle.js_terms.specs.declared.operators.LogicalOperator.TheVariants as logical
+use Rattle.js_terms.specs.declared.operators.UnaryOperator.{UnaryOperator}
+use Rattle.js_terms.specs.declared.operators.UnaryOperator.TheVariants as unary_operator
+use Rattle.js_terms.specs.declared.operators.UpdateOperator.{UpdateOperator}
+use Rattle.js_terms.specs.declared.operators.VariableKind.{VariableKind}
+use Rattle.js_terms.specs.declared.operators.VariableKind.TheVariants as variable
 use Rattle.js_tree.specs.Codes.{Code, Ordinary, OfMethod, Arrow}
-use Rattle.js_tree.specs.Mark.{Mark}
+use Rattle.js_terms.specs.Mark.{Mark}
 use Rattle.js_value.specs.declared.value.Value.{Value}
 use Rattle.js_value.specs.declared.value.Value.TheVariants as value
 use Rattle.js_value.specs.declared.value.Primitive.TheVariants as primitive

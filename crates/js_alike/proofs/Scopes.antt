@@ -17,8 +17,8 @@ use Rattle.js_meaning.specs.VarNames.{declared_names, var_stmts}
 use Rattle.js_scopes.specs.declared.binding.Binding.{Binding as Binding'}
 use Rattle.js_scopes.specs.declared.binding.Binding.TheVariants as binding
 use Rattle.js_scopes.specs.Declarations as scopes
-use Rattle.js_tree.specs.declared.operators.VariableKind.{VariableKind}
-use Rattle.js_tree.specs.declared.operators.VariableKind.TheVariants as variable
+use Rattle.js_terms.specs.declared.operators.VariableKind.{VariableKind}
+use Rattle.js_terms.specs.declared.operators.VariableKind.TheVariants as variable
 use Rattle.js_value.specs.Functions.{name_units}
 use Rattle.js_meaning.specs.Scopes.{Hoisted, Scope, lexical_names, lexical_stmt, lexical_stmts, function_stmt, function_stmts, names_of, block_scope, body_scope, lexical_scope, bound_names, init_scope, target_scope, is_fresh, append_stmts, case_stmts, cases_stmts, param_names, expected_arguments, has_defaults, body_stmts, concise_stmts, shape_of, closed}
 use Rattle.js_meaning.specs.Prelude.{property_made, properties_made, literal_made, prelude_stmt, prelude_stmts, prelude_made, opening}

@@ -1,9 +1,9 @@
 -- Computations that do the same, but for the trees of the loops whose turns they ask for; and their runs, which are equal.
 use Rattle.std.proofs.Common.{◌≡◌, ℕ, zero, suc, List, Option, None, refl, sym, ap, ◌∙◌}
-use Rattle.js_tree.specs.Mark.{Mark}
+use Rattle.js_terms.specs.Mark.{Mark}
 use Rattle.js_tree.specs.Plain.{Expr, Stmt, While, DoWhile, For, ForIn, ForOf, ForInit, ForTarget, MaybeExpr}
 use Rattle.js_tree.specs.Same.{bare_expr, bare_stmt}
-use Rattle.js_tree.specs.declared.place.Loc.{Loc}
+use Rattle.js_terms.specs.declared.place.Loc.{Loc}
 use Rattle.js_value.specs.Iterations.{Iteration}
 use Rattle.js_value.specs.declared.value.Value.{Value}
 use Rattle.js_value.specs.declared.value.Kind.{Kind}

@@ -1,11 +1,11 @@
 -- What hints leave of what is counted in a tree stands at low lines and columns where all that is counted without hints does.
 use Rattle.std.proofs.Common.{Bool, true, false, List, [], ◌∷◌, ◌++◌, Option, Some, None}
-use Rattle.js_tree.specs.declared.construct.BranchKind.{BranchKind}
-use Rattle.js_tree.specs.declared.construct.BranchKind.TheVariants as branch_kind
-use Rattle.js_tree.specs.declared.construct.Construct.{Construct}
+use Rattle.js_terms.specs.declared.construct.BranchKind.{BranchKind}
+use Rattle.js_terms.specs.declared.construct.BranchKind.TheVariants as branch_kind
+use Rattle.js_terms.specs.declared.construct.Construct.{Construct}
 use Rattle.js_tree.specs.declared.hint.Hint.TheVariants as hint
-use Rattle.js_tree.specs.declared.place.Loc.{Loc}
-use Rattle.js_tree.specs.declared.words.Identifier.{Identifier}
+use Rattle.js_terms.specs.declared.place.Loc.{Loc}
+use Rattle.js_terms.specs.declared.words.Identifier.{Identifier}
 use Rattle.js_tree.specs.Hints.{Heed, Ignored, Heeding, heed, heed_arm, heeded_place, path_in, case_paths, leaf_paths}
 use Rattle.js_tree.specs.Places.{bare_place, expr_place, stmt_place, stmt_if_place, property_place, param_place, declarator_place, case_place, body_place, concise_place}
 use Rattle.js_tree.specs.Plain.{Expr, IdentifierReference, This, NullLiteral, BooleanLiteral, NumericLiteral, StringLiteral, ArrayLiteral, ObjectLiteral, FunctionExpression, ArrowFunction, RegularExpressionLiteral, TemplateLiteral, Parenthesized, NamedMember, ComputedMember, New, Call, PostfixUpdate, PrefixUpdate, Unary, Binary, Logical, Conditional, Assignment, Comma, Entered}

@@ -1,14 +1,14 @@
 -- What a production makes of parts that stand at low lines and columns, with what is counted in them, stands so too.
 use Rattle.std.proofs.Common.{arith, ℕ, zero, suc, Bool, true, false, not, ◌&&◌, List, [], ◌∷◌, ◌++◌, Option, Some, None, if◌then◌else◌}
-use Rattle.js_tree.specs.declared.place.Loc.{Loc}
-use Rattle.js_tree.specs.declared.words.Identifier.{Identifier}
-use Rattle.js_tree.specs.declared.words.Spelled.{Spelled}
-use Rattle.js_tree.specs.declared.operators.VariableKind.{VariableKind}
-use Rattle.js_tree.specs.declared.operators.LogicalOperator.{LogicalOperator}
-use Rattle.js_tree.specs.declared.operators.LogicalOperator.TheVariants as logic
-use Rattle.js_tree.specs.declared.operators.AssignmentOperator.{AssignmentOperator}
-use Rattle.js_tree.specs.declared.operators.AssignmentOperator.TheVariants as assign
-use Rattle.js_tree.specs.declared.construct.Construct.{Construct}
+use Rattle.js_terms.specs.declared.place.Loc.{Loc}
+use Rattle.js_terms.specs.declared.words.Identifier.{Identifier}
+use Rattle.js_terms.specs.declared.words.Spelled.{Spelled}
+use Rattle.js_terms.specs.declared.operators.VariableKind.{VariableKind}
+use Rattle.js_terms.specs.declared.operators.LogicalOperator.{LogicalOperator}
+use Rattle.js_terms.specs.declared.operators.LogicalOperator.TheVariants as logic
+use Rattle.js_terms.specs.declared.operators.AssignmentOperator.{AssignmentOperator}
+use Rattle.js_terms.specs.declared.operators.AssignmentOperator.TheVariants as assign
+use Rattle.js_terms.specs.declared.construct.Construct.{Construct}
 use Rattle.js_tree.specs.Plain.{Expr, Exprs, no_expr, more_expr, Stmt, Stmts, more_stmt, MaybeExpr, some_expr}
 use Rattle.js_tree.specs.Plain as tree
 use Rattle.js_tree.specs.Places.{bare_place, stmt_place, case_place, braced_place, concise_place}

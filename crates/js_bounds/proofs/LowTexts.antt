@@ -3,9 +3,9 @@ use Rattle.std.proofs.Common.{◌≡◌, ℕ, ◌+◌, ◌<◌, ◌^◌, Bool, t
 use Rattle.std.specs.Option.{option_map}
 use Rattle.std.specs.Str.{bytes_eq}
 use Rattle.std.specs.Prelude.{sum_by}
-use Rattle.js_tree.specs.declared.place.Loc.{Loc}
-use Rattle.js_tree.specs.declared.construct.Construct.{Construct}
-use Rattle.js_tree.specs.declared.construct.Construct.TheVariants as construct
+use Rattle.js_terms.specs.declared.place.Loc.{Loc}
+use Rattle.js_terms.specs.declared.construct.Construct.{Construct}
+use Rattle.js_terms.specs.declared.construct.Construct.TheVariants as construct
 use Rattle.js_tree.specs.Plain.{Expr, Exprs, Stmts, File, MakeFile}
 use Rattle.js_tree.specs.Plain as tree
 use Rattle.js_walk.specs.Walk.{walk_file, within_stmts}

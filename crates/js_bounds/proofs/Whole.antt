@@ -3,8 +3,8 @@ use Rattle.std.proofs.Common.{◌≡◌, ℕ, ◌+◌, ◌*◌, ◌^◌, ◌<◌
 use Rattle.std.specs.Str.{IsUtf8}
 use Rattle.std.proofs.lemmas.Str.{IsUtf8-append, IsUtf8-from_ascii}
 use Rattle.std.proofs.lemmas.Fmt.{IsAscii-decimal}
-use Rattle.js_tree.specs.declared.construct.Construct.{Construct}
-use Rattle.js_tree.specs.declared.construct.Construct.TheVariants as construct
+use Rattle.js_terms.specs.declared.construct.Construct.{Construct}
+use Rattle.js_terms.specs.declared.construct.Construct.TheVariants as construct
 use Rattle.js_tree.specs.Hints.{heed_comments}
 use Rattle.js_tree.specs.Plain.{File, MakeFile}
 use Rattle.js_walk.specs.Walk.{within_stmts}

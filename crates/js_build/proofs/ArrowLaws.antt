@@ -1,7 +1,7 @@
 -- Parameters and bodies of arrow functions.
 use Rattle.std.proofs.Common.{◌≡◌, ℕ, max, Bool, List, [], ◌∷◌, Option, Some, None, refl, ap, sym, ◌∙◌, arith}
-use Rattle.js_tree.specs.declared.operators.AssignmentOperator.TheVariants as assign
-use Rattle.js_tree.specs.declared.place.Loc.{Loc}
+use Rattle.js_terms.specs.declared.operators.AssignmentOperator.TheVariants as assign
+use Rattle.js_terms.specs.declared.place.Loc.{Loc}
 use Rattle.js_tree.specs.Plain.{Expr, Exprs, no_expr, more_expr, Param, Params, no_param, more_param, push_params}
 use Rattle.js_tree.specs.Plain as tree
 use Rattle.js_tree.specs.Height.{height_expr, height_exprs, height_param, height_params}

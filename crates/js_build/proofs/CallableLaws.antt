@@ -1,6 +1,6 @@
 -- Parameters and bodies, read one by one from the front.
 use Rattle.std.proofs.Common.{◌≡◌, ℕ, max, List, [], ◌∷◌, Option, Some, None, refl, ap, ◌∙◌, arith}
-use Rattle.js_tree.specs.declared.place.Loc.{Loc}
+use Rattle.js_terms.specs.declared.place.Loc.{Loc}
 use Rattle.js_tree.specs.Plain.{Expr, MaybeExpr, none_expr, some_expr, Param, Params, no_param, more_param, push_params}
 use Rattle.js_tree.specs.Plain as tree
 use Rattle.js_tree.specs.Height.{height_param, height_params}

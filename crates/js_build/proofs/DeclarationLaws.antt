@@ -1,7 +1,7 @@
 -- Declarators, read one by one from the front.
 use Rattle.std.proofs.Common.{◌≡◌, ℕ, max, Bool, true, false, List, [], ◌∷◌, Option, Some, None, refl, ap, sym, ◌∙◌, arith}
-use Rattle.js_tree.specs.declared.operators.VariableKind.{VariableKind}
-use Rattle.js_tree.specs.declared.place.Loc.{Loc}
+use Rattle.js_terms.specs.declared.operators.VariableKind.{VariableKind}
+use Rattle.js_terms.specs.declared.place.Loc.{Loc}
 use Rattle.js_tree.specs.Plain.{Expr, Declarator, Declarators, no_declarator, more_declarator, push_declarators}
 use Rattle.js_tree.specs.Height.{height_declarator, height_declarators}
 use Rattle.js_reading.specs.Slots.{AnExpr, APlace, AWord, Missing}

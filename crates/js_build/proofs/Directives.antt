@@ -1,6 +1,6 @@
 -- Statements whose first strings are directives, read one by one.
 use Rattle.std.proofs.Common.{◌≡◌, Bool, true, false, ◌&&◌, Option, refl, ap, sym, ◌∙◌}
-use Rattle.js_tree.specs.declared.place.Loc.{Loc}
+use Rattle.js_terms.specs.declared.place.Loc.{Loc}
 use Rattle.js_tree.specs.Plain.{Expr, Stmt, Stmts, no_stmt, more_stmt, push_stmts}
 use Rattle.js_tree.specs.Plain as tree
 use Rattle.js_reading.specs.Makes.{with_directives}

@@ -1,6 +1,6 @@
 -- The plain tree keeps the place of an expression.
 use Rattle.std.proofs.Common.{◌≡◌, Option, sym, ap, ◌∙◌}
-use Rattle.js_tree.specs.declared.place.Loc.{Loc}
+use Rattle.js_terms.specs.declared.place.Loc.{Loc}
 use Rattle.js_tree.specs.declared.tree.Case.{Case}
 use Rattle.js_tree.specs.declared.tree.Catch.{Catch}
 use Rattle.js_tree.specs.declared.tree.ConciseBody.{ConciseBody}

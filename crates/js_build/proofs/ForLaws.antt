@@ -1,6 +1,6 @@
 -- The parts of a `for`, read from the front.
 use Rattle.std.proofs.Common.{◌≡◌, ℕ, Bool, true, false, not, ◌&&◌, List, [], ◌∷◌, Option, Some, None, if◌then◌else◌, refl, ap, sym, ◌∙◌}
-use Rattle.js_tree.specs.declared.place.Loc.{Loc}
+use Rattle.js_terms.specs.declared.place.Loc.{Loc}
 use Rattle.js_tree.specs.Plain.{Expr, Stmt, MaybeExpr, none_expr, some_expr}
 use Rattle.js_tree.specs.Plain as tree
 use Rattle.js_reading.specs.Slots.{Piece, AnExpr, AStmt, IsIn, IsOf, Missing}

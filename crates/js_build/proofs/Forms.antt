@@ -1,12 +1,12 @@
 -- What `build` makes of the pieces of a production, by their shape.
 use Rattle.std.proofs.Common.{◌≡◌, ℕ, List, [], ◌∷◌, Option, Some, None, if◌then◌else◌, refl}
-use Rattle.js_tree.specs.declared.operators.AssignmentOperator.{AssignmentOperator}
-use Rattle.js_tree.specs.declared.operators.BinaryOperator.{BinaryOperator}
-use Rattle.js_tree.specs.declared.operators.LogicalOperator.{LogicalOperator}
-use Rattle.js_tree.specs.declared.operators.LogicalOperator.TheVariants as logic
-use Rattle.js_tree.specs.declared.operators.UnaryOperator.{UnaryOperator}
-use Rattle.js_tree.specs.declared.operators.UpdateOperator.{UpdateOperator}
-use Rattle.js_tree.specs.declared.place.Loc.{Loc}
+use Rattle.js_terms.specs.declared.operators.AssignmentOperator.{AssignmentOperator}
+use Rattle.js_terms.specs.declared.operators.BinaryOperator.{BinaryOperator}
+use Rattle.js_terms.specs.declared.operators.LogicalOperator.{LogicalOperator}
+use Rattle.js_terms.specs.declared.operators.LogicalOperator.TheVariants as logic
+use Rattle.js_terms.specs.declared.operators.UnaryOperator.{UnaryOperator}
+use Rattle.js_terms.specs.declared.operators.UpdateOperator.{UpdateOperator}
+use Rattle.js_terms.specs.declared.place.Loc.{Loc}
 use Rattle.js_tree.specs.Plain.{Expr, Stmt}
 use Rattle.js_tree.specs.Plain as tree
 use Rattle.js_reading.specs.Level.{binary_level, logical_level}

@@ -1,7 +1,7 @@
 -- The heads of `for` that declare variables.
 use Rattle.std.proofs.Common.{◌≡◌, ℕ, Bool, true, false, List, [], ◌∷◌, Option, Some, None, refl, ap}
-use Rattle.js_tree.specs.declared.operators.VariableKind.{VariableKind}
-use Rattle.js_tree.specs.declared.place.Loc.{Loc}
+use Rattle.js_terms.specs.declared.operators.VariableKind.{VariableKind}
+use Rattle.js_terms.specs.declared.place.Loc.{Loc}
 use Rattle.js_tree.specs.Plain.{Declarators, no_declarator}
 use Rattle.js_tree.specs.Plain as tree
 use Rattle.js_reading.specs.Slots.{Piece, AKind, AnExpr, AStmt, AWord, IsIn, IsOf}

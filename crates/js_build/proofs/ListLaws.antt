@@ -1,6 +1,6 @@
 -- Lists that are read from the front, one by one.
 use Rattle.std.proofs.Common.{◌≡◌, ℕ, max, Bool, true, false, List, [], ◌∷◌, Option, Some, None, refl, ap, arith}
-use Rattle.js_tree.specs.declared.place.Loc.{Loc}
+use Rattle.js_terms.specs.declared.place.Loc.{Loc}
 use Rattle.js_tree.specs.Plain.{Expr, MaybeExpr, none_expr, some_expr, Stmts, TemplatePart, TemplateParts, no_template_part, more_template_part, push_template_parts, Case, Cases, no_case, more_case, push_cases}
 use Rattle.js_tree.specs.Height.{height_case, height_cases, height_template_part, height_template_parts}
 use Rattle.js_reading.specs.Slots.{Piece, AnExpr, TheStmts, APlace}

@@ -1,6 +1,6 @@
 -- What an operand says of its tree, part by part.
 use Rattle.std.proofs.Common.{◌≡◌, ℕ, ◌+◌, max, Bool, ◌||◌}
-use Rattle.js_tree.specs.declared.operators.BinaryOperator.{BinaryOperator}
+use Rattle.js_terms.specs.declared.operators.BinaryOperator.{BinaryOperator}
 use Rattle.js_build.specs.Growing.{joined_more}
 use Rattle.js_build.specs.Measures.{bare_in_binary}
 

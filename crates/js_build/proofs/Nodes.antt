@@ -1,10 +1,10 @@
 -- What the plain trees of nodes are that are made here, and what is known of their operands.
 use Rattle.std.proofs.Common.{◌≡◌, Option, Some, None, refl, ap, ◌∙◌}
-use Rattle.js_tree.specs.declared.operators.BinaryOperator.{BinaryOperator}
-use Rattle.js_tree.specs.declared.operators.BinaryOperator.TheVariants as b
+use Rattle.js_terms.specs.declared.operators.BinaryOperator.{BinaryOperator}
+use Rattle.js_terms.specs.declared.operators.BinaryOperator.TheVariants as b
 use Rattle.js_tree.specs.Plain.{Expr}
 use Rattle.js_tree.specs.Plain as tree
-use Rattle.js_tree.specs.declared.place.Loc.{Loc}
+use Rattle.js_terms.specs.declared.place.Loc.{Loc}
 use Rattle.js_tree.proofs.Equations.{expr_postfix_update, expr_prefix_update, expr_unary, expr_binary, expr_logical, expr_conditional, expr_assignment, expr_comma}
 use Rattle.js_tree.proofs.Equations.{stmt_if, stmt_if_none, stmt_if_some, stmt_return, expr_if_none, expr_if_some}
 use Rattle.js_tree.specs.declared.tree.Expr as code

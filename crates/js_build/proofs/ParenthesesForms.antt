@@ -1,6 +1,6 @@
 -- What `build` makes of parentheses and what stands after them.
 use Rattle.std.proofs.Common.{◌≡◌, Bool, true, false, List, [], ◌∷◌, Option, Some, None, refl, ◌∙◌}
-use Rattle.js_tree.specs.declared.place.Loc.{Loc}
+use Rattle.js_terms.specs.declared.place.Loc.{Loc}
 use Rattle.js_tree.specs.Plain.{Expr, Exprs, no_expr, more_expr}
 use Rattle.js_tree.specs.Plain as tree
 use Rattle.js_reading.specs.Slots.{Piece, AnExpr, APlace, Missing, TheExprs}

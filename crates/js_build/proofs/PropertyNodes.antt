@@ -1,6 +1,6 @@
 -- What the plain trees of properties are, and their heights.
 use Rattle.std.proofs.Common.{◌≡◌, ◌+◌, max, ℕ, List, Option, ap, ◌∙◌}
-use Rattle.js_tree.specs.declared.place.Loc.{Loc}
+use Rattle.js_terms.specs.declared.place.Loc.{Loc}
 use Rattle.js_tree.specs.declared.tree.Expr.{Expr}
 use Rattle.js_tree.specs.declared.tree.Function.{Function}
 use Rattle.js_tree.specs.declared.tree.Property.{roll-Property}

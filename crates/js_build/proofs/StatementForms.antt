@@ -1,7 +1,7 @@
 -- What `build` makes of the pieces of a statement, by their shape.
 use Rattle.std.proofs.Common.{◌≡◌, ℕ, List, [], ◌∷◌, Option, Some, None, refl}
-use Rattle.js_tree.specs.declared.place.Loc.{Loc}
-use Rattle.js_tree.specs.declared.words.Identifier.{Identifier}
+use Rattle.js_terms.specs.declared.place.Loc.{Loc}
+use Rattle.js_terms.specs.declared.words.Identifier.{Identifier}
 use Rattle.js_tree.specs.Plain.{Expr, MaybeExpr, Stmt, Stmts, none_stmt, some_stmt}
 use Rattle.js_tree.specs.Plain as tree
 use Rattle.js_reading.specs.Slots.{Piece, AnExpr, AStmt, TheStmts, Missing}

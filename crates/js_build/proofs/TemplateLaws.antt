@@ -1,7 +1,7 @@
 -- Templates, read from the front.
 use Rattle.std.proofs.Common.{◌≡◌, List, [], ◌∷◌, Option, Some, None, refl, sym, ap, ◌∙◌}
-use Rattle.js_tree.specs.declared.place.Loc.{Loc}
-use Rattle.js_tree.specs.declared.words.Spelled.{Spelled}
+use Rattle.js_terms.specs.declared.place.Loc.{Loc}
+use Rattle.js_terms.specs.declared.words.Spelled.{Spelled}
 use Rattle.js_tree.specs.declared.tree.Expr as code
 use Rattle.js_tree.specs.declared.tree.TemplatePart.{roll-TemplatePart}
 use Rattle.js_tree.specs.Tree.{plain_expr, plain_template_part}

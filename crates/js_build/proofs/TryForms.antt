@@ -1,6 +1,6 @@
 -- What `build` makes of the pieces of `try`, after the parameter of its `catch`.
 use Rattle.std.proofs.Common.{◌≡◌, ℕ, List, [], ◌∷◌, Option, Some, None, refl}
-use Rattle.js_tree.specs.declared.place.Loc.{Loc}
+use Rattle.js_terms.specs.declared.place.Loc.{Loc}
 use Rattle.js_tree.specs.Plain.{MaybePattern, Stmts, none_pattern, some_pattern}
 use Rattle.js_tree.specs.Plain as tree
 use Rattle.js_reading.specs.Slots.{Piece, AStmt, AWord, TheStmts, Missing}

@@ -1,6 +1,6 @@
 -- Parameters that were read as expressions (15.3).
 use Rattle.std.specs.Prelude.{Option, Some, None}
-use Rattle.js_tree.specs.declared.place.Loc.{Loc}
+use Rattle.js_terms.specs.declared.place.Loc.{Loc}
 use Rattle.js_tree.specs.Plain.{Expr}
 use Rattle.js_tree.specs.Plain as tree
 

@@ -1,6 +1,6 @@
 -- The pieces of parameters and bodies, read from the front.
 use Rattle.std.specs.Prelude.{ℕ, List, ◌∷◌, Option, Some, None}
-use Rattle.js_tree.specs.declared.place.Loc.{Loc}
+use Rattle.js_terms.specs.declared.place.Loc.{Loc}
 use Rattle.js_tree.specs.Plain.{Expr}
 use Rattle.js_tree.specs.Plain as tree
 use Rattle.js_tree.specs.Tree.{plain_concise_body, plain_expr, plain_function, plain_params, plain_stmts}

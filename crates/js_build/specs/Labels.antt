@@ -1,6 +1,6 @@
 -- The label of a jump.
 use Rattle.std.specs.Prelude.{List, ◌∷◌, Option, Some, None}
-use Rattle.js_tree.specs.declared.words.Identifier.{Identifier}
+use Rattle.js_terms.specs.declared.words.Identifier.{Identifier}
 use Rattle.js_reading.specs.Slots.{Piece, AWord, Missing}
 use Rattle.js_reading.specs.Makes.{identifier}
 use Rattle.js_build.specs.Shapes.{if_over, none_left}

@@ -1,6 +1,6 @@
 -- Lists that are read from the front: parts of templates, clauses of `switch`, declarators.
 use Rattle.std.specs.Prelude.{Bool, true, false, List, ◌∷◌, Option, Some, None}
-use Rattle.js_tree.specs.declared.place.Loc.{Loc}
+use Rattle.js_terms.specs.declared.place.Loc.{Loc}
 use Rattle.js_tree.specs.Plain.{MaybeExpr, none_expr, some_expr, Stmts}
 use Rattle.js_tree.specs.Plain as tree
 use Rattle.js_tree.specs.Tree.{plain_case, plain_cases, plain_expr, plain_stmts, plain_template_parts}

@@ -1,8 +1,8 @@
 -- What an operand, a statement and their lists say of their trees.
 use Rattle.std.specs.Prelude.{ℕ, Bool, true, ◌||◌, List}
 use Rattle.js_tree.specs.Plain as tree
-use Rattle.js_tree.specs.declared.operators.BinaryOperator.{BinaryOperator}
-use Rattle.js_tree.specs.declared.operators.BinaryOperator.TheVariants as b
+use Rattle.js_terms.specs.declared.operators.BinaryOperator.{BinaryOperator}
+use Rattle.js_terms.specs.declared.operators.BinaryOperator.TheVariants as b
 use Rattle.js_tree.specs.declared.tree.ConciseBody.{ConciseBody}
 use Rattle.js_tree.specs.declared.tree.Expr.{Expr}
 use Rattle.js_tree.specs.declared.tree.Function.{Function}

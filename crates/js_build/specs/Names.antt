@@ -1,6 +1,6 @@
 -- A name that stands alone.
 use Rattle.std.specs.Prelude.{Option, Some, None}
-use Rattle.js_tree.specs.declared.words.Identifier.{Identifier}
+use Rattle.js_terms.specs.declared.words.Identifier.{Identifier}
 use Rattle.js_tree.specs.Plain.{Expr}
 use Rattle.js_tree.specs.Plain as tree
 

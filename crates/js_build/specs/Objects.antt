@@ -1,6 +1,6 @@
 -- Properties, read one by one from the front (13.2.5).
 use Rattle.std.specs.Prelude.{List, ◌∷◌, Option, Some, None, if◌then◌else◌}
-use Rattle.js_tree.specs.declared.place.Loc.{Loc}
+use Rattle.js_terms.specs.declared.place.Loc.{Loc}
 use Rattle.js_tree.specs.Plain.{Expr, PropertyKey, NameKey, ComputedKey, Properties}
 use Rattle.js_tree.specs.Plain as tree
 use Rattle.js_tree.specs.Tree.{plain_expr, plain_properties, plain_property, plain_property_key}

@@ -1,6 +1,6 @@
 -- The pieces of a template, read from the front.
 use Rattle.std.specs.Prelude.{List, ◌∷◌, Option, Some, None}
-use Rattle.js_tree.specs.declared.words.Spelled.{Spelled}
+use Rattle.js_terms.specs.declared.words.Spelled.{Spelled}
 use Rattle.js_tree.specs.Plain as tree
 use Rattle.js_tree.specs.Tree.{plain_template_part}
 use Rattle.js_reading.specs.Slots.{Piece, AnExpr, AText}

@@ -3,7 +3,7 @@ use Rattle.std.specs.Prelude.{◌≡◌, ℕ, List, [], ◌∷◌, Option, Some,
 use Rattle.std.specs.Option.{option_map}
 use Rattle.std.specs.declared.alloc.AllocError.{AllocError}
 use Rattle.js_tree.specs.Plain as tree
-use Rattle.js_tree.specs.declared.place.Loc.{Loc}
+use Rattle.js_terms.specs.declared.place.Loc.{Loc}
 use Rattle.js_tree.specs.declared.tree.ExprNode.{ExprNode}
 use Rattle.js_tree.specs.declared.tree.StmtNode.{StmtNode}
 use Rattle.js_tree.specs.Tree.{plain_expr, plain_expr_node, plain_exprs, plain_property_key, plain_stmt, plain_stmt_node, plain_stmts}

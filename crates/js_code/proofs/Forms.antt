@@ -5,14 +5,14 @@ use Rattle.js_tree.specs.Plain as P
 use Rattle.js_tree.specs.Codes as codes
 use Rattle.js_tree.specs.Linked as linked
 use Rattle.js_tree.specs.Linked.{Unmarked}
-use Rattle.js_tree.specs.declared.place.Loc.{Loc}
-use Rattle.js_tree.specs.declared.words.Identifier.{Identifier}
-use Rattle.js_tree.specs.declared.words.Spelled.{Spelled}
-use Rattle.js_tree.specs.declared.operators.AssignmentOperator.{AssignmentOperator}
-use Rattle.js_tree.specs.declared.operators.BinaryOperator.{BinaryOperator}
-use Rattle.js_tree.specs.declared.operators.UnaryOperator.{UnaryOperator}
-use Rattle.js_tree.specs.declared.operators.UpdateOperator.{UpdateOperator}
-use Rattle.js_tree.specs.declared.operators.VariableKind.{VariableKind}
+use Rattle.js_terms.specs.declared.place.Loc.{Loc}
+use Rattle.js_terms.specs.declared.words.Identifier.{Identifier}
+use Rattle.js_terms.specs.declared.words.Spelled.{Spelled}
+use Rattle.js_terms.specs.declared.operators.AssignmentOperator.{AssignmentOperator}
+use Rattle.js_terms.specs.declared.operators.BinaryOperator.{BinaryOperator}
+use Rattle.js_terms.specs.declared.operators.UnaryOperator.{UnaryOperator}
+use Rattle.js_terms.specs.declared.operators.UpdateOperator.{UpdateOperator}
+use Rattle.js_terms.specs.declared.operators.VariableKind.{VariableKind}
 use Rattle.js_code.specs.declared.literal.StringValue.{StringValue}
 use Rattle.js_code.specs.declared.node.Node.TheVariants as node
 use Rattle.js_code.specs.Literal.{spelled_of}

@@ -7,7 +7,7 @@ use Rattle.js_tree.specs.Codes as trees
 use Rattle.js_tree.specs.Codes.{Code, Ordinary, OfMethod, Arrow}
 use Rattle.js_tree.specs.Linked as linked
 use Rattle.js_tree.specs.Linked.{Unmarked, Numbers, Linked, two, after_code}
-use Rattle.js_tree.specs.declared.place.Loc.{Loc}
+use Rattle.js_terms.specs.declared.place.Loc.{Loc}
 use Rattle.js_code.specs.declared.node.Node.TheVariants as node
 use Rattle.js_code.specs.declared.node.Node.{Node}
 use Rattle.js_code.specs.Part.{Part, ACode, AProperty, AnExpr, SomeParams, SomeStmts, as_code, as_expr, as_params, as_property_key, as_stmts}

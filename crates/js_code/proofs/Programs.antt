@@ -2,7 +2,7 @@
 use Rattle.std.proofs.Common.{◌≡◌, ℕ, zero, suc, ◌+◌, ◌<◌, ◌≤◌, false, List, [], ◌∷◌, ◌++◌, length, map, drop, get_or, Some, slice_get, refl, sym, ap, subst, ◌∙◌, arith, append_assoc, append-nil, add-one}
 use Rattle.js_tree.specs.Plain as P
 use Rattle.js_tree.specs.Plain.{MakeFile}
-use Rattle.js_tree.specs.declared.words.Comment.{Comment}
+use Rattle.js_terms.specs.declared.words.Comment.{Comment}
 use Rattle.js_tree.specs.Codes as codes
 use Rattle.js_tree.specs.Codes.{Code}
 use Rattle.js_tree.specs.Linked as linked

@@ -1,9 +1,9 @@
 -- The numbers of functions change no name that is declared.
 use Rattle.std.proofs.Common.{◌≡◌, ℕ, suc, List, ◌∷◌, ◌++◌, Option, refl, sym, ap, ◌∙◌, append_assoc}
-use Rattle.js_tree.specs.declared.place.Loc.{Loc}
-use Rattle.js_tree.specs.declared.words.Identifier.{Identifier}
-use Rattle.js_tree.specs.declared.operators.VariableKind.{VariableKind}
-use Rattle.js_tree.specs.declared.operators.VariableKind.TheVariants as variable
+use Rattle.js_terms.specs.declared.place.Loc.{Loc}
+use Rattle.js_terms.specs.declared.words.Identifier.{Identifier}
+use Rattle.js_terms.specs.declared.operators.VariableKind.{VariableKind}
+use Rattle.js_terms.specs.declared.operators.VariableKind.TheVariants as variable
 use Rattle.js_tree.specs.Plain.{Stmt, Block, VariableDeclaration, If, DoWhile, While, For, ForIn, ForOf, Switch, Labelled, TryCatch, TryFinally, TryCatchFinally, EnteredStmt, Stmts, no_stmt, more_stmt, MaybeStmt, none_stmt, some_stmt, entered_none}
 use Rattle.js_tree.specs.Plain.{MakeDeclarator, Declarators, no_declarator, more_declarator, none_expr, some_expr, ForInit, NoInit, InitDeclaration, InitExpression, ForTarget, TargetDeclaration, TargetExpression, Case, MakeCase, EnteredCase, Cases, no_case, more_case, Catch, MakeCatch, BindingIdentifier, Params, no_param, more_param, MakeParam}
 use Rattle.js_tree.specs.Linked.{Numbers, Unmarked, Uncounted, Alone, labelled, link_expr, link_expr_if, link_stmt, link_stmts, link_stmt_if, link_params, link_declarators, link_for_init, link_for_target, link_case, link_cases, link_catch}

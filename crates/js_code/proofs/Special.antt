@@ -6,10 +6,10 @@ use Rattle.js_tree.specs.Codes as codes
 use Rattle.js_tree.specs.Codes.{Code}
 use Rattle.js_tree.specs.Linked as linked
 use Rattle.js_tree.specs.Linked.{Unmarked, Numbers, Linked, kept, made, Chain, Alone, Operand, enter_leaf, operand, after_code, two}
-use Rattle.js_tree.specs.declared.place.Loc.{Loc}
-use Rattle.js_tree.specs.declared.words.Identifier.{Identifier}
-use Rattle.js_tree.specs.declared.operators.LogicalOperator.{LogicalOperator}
-use Rattle.js_tree.specs.declared.operators.VariableKind.{VariableKind}
+use Rattle.js_terms.specs.declared.place.Loc.{Loc}
+use Rattle.js_terms.specs.declared.words.Identifier.{Identifier}
+use Rattle.js_terms.specs.declared.operators.LogicalOperator.{LogicalOperator}
+use Rattle.js_terms.specs.declared.operators.VariableKind.{VariableKind}
 use Rattle.js_meaning.specs.Program.{from}
 use Rattle.js_code.specs.declared.node.Node.{Node}
 use Rattle.js_code.specs.declared.node.Node.TheVariants as node

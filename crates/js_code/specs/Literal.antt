@@ -1,5 +1,5 @@
 -- What a literal of the code is spelt.
-use Rattle.js_tree.specs.declared.words.Spelled.{Spelled}
+use Rattle.js_terms.specs.declared.words.Spelled.{Spelled}
 use Rattle.js_code.specs.declared.literal.StringValue.{StringValue}
 
 -- the string that a literal is of

@@ -2,7 +2,7 @@
 use Rattle.std.specs.Prelude.{◌≡◌, ℕ, Bool, true, false, ◌<◌, Option, None}
 use Rattle.js_tree.specs.Plain as P
 use Rattle.js_tree.specs.Codes.{Code, Ordinary, OfMethod, Arrow, number_of}
-use Rattle.js_tree.specs.declared.place.Loc.{Loc}
+use Rattle.js_terms.specs.declared.place.Loc.{Loc}
 use Rattle.js_meaning.specs.Scopes.{params_of, expected_arguments, lexical_names, bound_names, is_fresh, cases_stmts}
 use Rattle.js_code.specs.declared.node.Node.{Node}
 use Rattle.js_code.specs.declared.node.Node.TheVariants as node

@@ -1,6 +1,6 @@
 -- What a node can be read as: a part of a tree.
 use Rattle.std.specs.Prelude.{[], None}
-use Rattle.js_tree.specs.Mark.{Mark}
+use Rattle.js_terms.specs.Mark.{Mark}
 use Rattle.js_tree.specs.Plain as P
 use Rattle.js_code.specs.declared.node.ListKind.{ListKind}
 use Rattle.js_code.specs.declared.node.ListKind.TheVariants as list

@@ -4,11 +4,11 @@ use Rattle.std.specs.Prelude.{nat_lt, decimal, slice_get, slice_index_or, option
 use Rattle.std.proofs.lemmas.Bool.{cases_eq}
 use Rattle.std.proofs.lemmas.Bool.Decides.{nat_tests}
 use Rattle.std.proofs.lemmas.List.{length_push, length-set, get_or_push, get_or-set_other}
-use Rattle.js_tree.specs.Mark.{Mark}
+use Rattle.js_terms.specs.Mark.{Mark}
 use Rattle.js_tree.specs.Marked.{is_mark, one_if, times}
-use Rattle.js_tree.specs.declared.construct.ConstructKind.{ConstructKind}
-use Rattle.js_tree.specs.declared.construct.ConstructKind.TheVariants as construct_kind
-use Rattle.js_tree.specs.declared.operators.UpdateOperator.TheVariants as update
+use Rattle.js_terms.specs.declared.construct.ConstructKind.{ConstructKind}
+use Rattle.js_terms.specs.declared.construct.ConstructKind.TheVariants as construct_kind
+use Rattle.js_terms.specs.declared.operators.UpdateOperator.TheVariants as update
 use Rattle.js_tree.specs.Plain.{Call, PostfixUpdate, no_expr}
 use Rattle.js_value.specs.State.{ObjectRecord, Environment, Heap, Store}
 use Rattle.js_value.specs.Objects.{no_object, object_at, kind_of, own_of, count_value, set}

@@ -5,7 +5,7 @@ use Rattle.std.specs.Str.{bytes_eq}
 use Rattle.std.proofs.lemmas.Bool.{cases_eq}
 use Rattle.std.proofs.lemmas.Bool.Decides.{nat_tests}
 use Rattle.std.proofs.lemmas.Slice.Eq.{bytes_eq-Decides}
-use Rattle.js_tree.specs.Mark.{Mark}
+use Rattle.js_terms.specs.Mark.{Mark}
 use Rattle.js_value.specs.Key.{index_of}
 use Rattle.js_value.specs.Running.{stands_in}
 use Rattle.js_counter.specs.Represents.{Json, members, json_ticked, json_ticked_members, Placed, PlacedItems, PlacedMembers, null, truth, negative, number, unit_text, array, plain, none, item, empty, member, json_of, json_items, json_members, value_at, item_at, member_at, child, Within, ticked, ticked_members}

@@ -1,9 +1,9 @@
 -- The counters of a program's files, together: whose functions stand for whose, and that `this` is none of them.
 use Rattle.std.proofs.Common.{◌≡◌, ℕ, suc, true, false, List, [], ◌∷◌, ◌++◌, None, codes, refl, ap, ap₂, ◌∙◌}
-use Rattle.js_tree.specs.Mark.{Mark}
-use Rattle.js_tree.specs.declared.construct.ConstructKind.{ConstructKind}
-use Rattle.js_tree.specs.declared.construct.ConstructKind.TheVariants as construct_kind
-use Rattle.js_tree.specs.declared.operators.UpdateOperator.TheVariants as update
+use Rattle.js_terms.specs.Mark.{Mark}
+use Rattle.js_terms.specs.declared.construct.ConstructKind.{ConstructKind}
+use Rattle.js_terms.specs.declared.construct.ConstructKind.TheVariants as construct_kind
+use Rattle.js_terms.specs.declared.operators.UpdateOperator.TheVariants as update
 use Rattle.js_tree.specs.Plain.{File, MakeFile, Call, PostfixUpdate, no_expr}
 use Rattle.js_tree.specs.Codes.{functions_expr}
 use Rattle.js_text.specs.Word.{reserved_word}

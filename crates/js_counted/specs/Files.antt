@@ -1,9 +1,9 @@
 -- What the counters of a file are, and what its data tell after a log.
 use Rattle.std.specs.Prelude.{ℕ, List, [], ◌∷◌, codes, nat_eq, if◌then◌else◌}
-use Rattle.js_tree.specs.Mark.{Mark}
-use Rattle.js_tree.specs.declared.construct.ConstructKind.{ConstructKind}
-use Rattle.js_tree.specs.declared.construct.ConstructKind.TheVariants as construct_kind
-use Rattle.js_tree.specs.declared.words.Spelled.{Spelled}
+use Rattle.js_terms.specs.Mark.{Mark}
+use Rattle.js_terms.specs.declared.construct.ConstructKind.{ConstructKind}
+use Rattle.js_terms.specs.declared.construct.ConstructKind.TheVariants as construct_kind
+use Rattle.js_terms.specs.declared.words.Spelled.{Spelled}
 use Rattle.js_value.specs.Functions.{name_units}
 use Rattle.js_counter.specs.Represents.{Json, JsonMembers, no_members, members, json_ticked}
 use Rattle.js_counter.specs.Literals.{Literal, data_of}

@@ -1,9 +1,9 @@
 -- What the run of a program with its counters holds beside what stands for something in the source's run: under the global object the
 -- coverage of the files started, and in each one's own environment the function that gives its data.
 use Rattle.std.specs.Prelude.{◌≡◌, ◌≢◌, ℕ, ◌<◌, Bool, true, false, List, [], ◌∷◌, length, codes, Option, Some, None, slice_index_or}
-use Rattle.js_tree.specs.Mark.{Mark}
-use Rattle.js_tree.specs.declared.place.Loc.{Loc}
-use Rattle.js_tree.specs.declared.words.Spelled.{Spelled}
+use Rattle.js_terms.specs.Mark.{Mark}
+use Rattle.js_terms.specs.declared.place.Loc.{Loc}
+use Rattle.js_terms.specs.declared.words.Spelled.{Spelled}
 use Rattle.js_value.specs.declared.built_in.Place.TheVariants.{Global}
 use Rattle.js_value.specs.State.{Property, Written, Binding, Heap}
 use Rattle.js_value.specs.Objects.{object_at, kind_of, own}

@@ -1,8 +1,8 @@
 -- What the law of the two runs asks of counters, part by part.
 use Rattle.std.specs.Prelude.{◌≡◌, ℕ, ◌+◌, ◌-◌, ◌^◌, ◌≤◌, true, List, [], slice_get, Option, Some}
-use Rattle.js_tree.specs.declared.place.Loc.{Loc}
-use Rattle.js_tree.specs.declared.words.Comment.{Comment}
-use Rattle.js_tree.specs.declared.words.Spelled.{Spelled}
+use Rattle.js_terms.specs.declared.place.Loc.{Loc}
+use Rattle.js_terms.specs.declared.words.Comment.{Comment}
+use Rattle.js_terms.specs.declared.words.Spelled.{Spelled}
 use Rattle.js_tree.specs.Plain.{MakeFile, Stmts}
 use Rattle.js_value.specs.State.{Store}
 use Rattle.js_value.specs.Realm.{opening}

@@ -1,7 +1,7 @@
 -- The counters of a program's files, and the law of its two runs.
 use Rattle.std.specs.Prelude.{◌≡◌, ◌≢◌, ℕ, ◌+◌, ◌-◌, ◌^◌, Bool, true, false, IsTrue, List, [], ◌++◌, codes, Some, None, slice_get}
 use Rattle.std.specs.Str.{bytes_eq}
-use Rattle.js_tree.specs.Mark.{Mark}
+use Rattle.js_terms.specs.Mark.{Mark}
 use Rattle.js_tree.specs.Plain.{Stmts, no_stmt}
 use Rattle.js_tree.specs.Codes.{Code, functions_stmts}
 use Rattle.js_value.specs.Functions.{name_units}

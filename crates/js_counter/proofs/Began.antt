@@ -1,8 +1,8 @@
 -- The start of a file that has counters, whole.
 use Rattle.std.proofs.Common.{Option, ◌≡◌, ℕ, suc, List, Some, sym, ap, ◌∙◌}
-use Rattle.js_tree.specs.declared.words.Comment.{Comment}
-use Rattle.js_tree.specs.declared.place.Loc.{Loc}
-use Rattle.js_tree.specs.declared.words.Spelled.{Spelled}
+use Rattle.js_terms.specs.declared.words.Comment.{Comment}
+use Rattle.js_terms.specs.declared.place.Loc.{Loc}
+use Rattle.js_terms.specs.declared.words.Spelled.{Spelled}
 use Rattle.js_tree.specs.Plain.{Stmts, MakeFile}
 use Rattle.js_value.specs.declared.value.Value.{Value}
 use Rattle.js_value.specs.declared.built_in.Place.TheVariants.{ObjectPrototype}

@@ -2,9 +2,9 @@
 use Rattle.std.proofs.Common.{◌≡◌, ℕ, zero, suc, ◌<◌, ◌&&◌, not, true, false, List, [], ◌∷◌, ◌++◌, length, Option, Some, None, Ok, refl, sym, ap, subst, ◌∙◌, arith, if◌then◌else◌}
 use Rattle.std.specs.Prelude.{slice_set}
 use Rattle.std.specs.Str.{bytes_eq}
-use Rattle.js_tree.specs.declared.operators.LogicalOperator.TheVariants as logic
+use Rattle.js_terms.specs.declared.operators.LogicalOperator.TheVariants as logic
 use Rattle.std.proofs.lemmas.List.{get_or_append_left, length_push}
-use Rattle.js_tree.specs.declared.words.Spelled.{Spelled}
+use Rattle.js_terms.specs.declared.words.Spelled.{Spelled}
 use Rattle.js_tree.specs.Plain.{Expr, Logical, Unary, Binary, Parenthesized, NamedMember, ObjectLiteral, no_property}
 use Rattle.js_value.specs.declared.value.Value.{Value}
 use Rattle.js_value.specs.declared.value.Value.TheVariants as value
@@ -23,8 +23,8 @@ use Rattle.js_meaning.specs.declared.outcome.Completion.{Completion}
 use Rattle.js_meaning.specs.declared.outcome.Completion.TheVariants.{Normal}
 use Rattle.js_meaning.specs.Effects.{Comp, handle}
 use Rattle.js_meaning.specs.Program.{Sources}
-use Rattle.js_tree.specs.declared.operators.BinaryOperator.TheVariants as binary_operator
-use Rattle.js_tree.specs.declared.operators.UnaryOperator.TheVariants as unary_operator
+use Rattle.js_terms.specs.declared.operators.BinaryOperator.TheVariants as binary_operator
+use Rattle.js_terms.specs.declared.operators.UnaryOperator.TheVariants as unary_operator
 use Rattle.js_tree.specs.Plain.{Block, more_stmt, no_stmt}
 use Rattle.js_meaning.specs.Meaning.{operated, operated_unary, Member, with_value, give, done, choose, chosen, read, get_member_of, put_value, unless_halted, comp_expr, comp_stmt}
 use Rattle.js_meaning.specs.Points.{Comes, point, onward}

@@ -2,7 +2,7 @@
 use Rattle.std.proofs.Common.{◌≡◌, ℕ, suc, ◌<◌, List, [], length, codes, Some, None, refl, ap, ◌∙◌, arith}
 use Rattle.std.specs.Prelude.{slice_index_or}
 use Rattle.std.proofs.lemmas.List.{get_or-set_other}
-use Rattle.js_tree.specs.declared.words.Spelled.{Spelled}
+use Rattle.js_terms.specs.declared.words.Spelled.{Spelled}
 use Rattle.js_tree.specs.Plain.{Expr, StringLiteral, Stmt, Stmts, Return, some_expr, more_stmt, no_stmt}
 use Rattle.js_tree.specs.Codes.{Code, Ordinary}
 use Rattle.js_tree.specs.Plain.{MakeFunction, MakeFunctionBody, no_param}

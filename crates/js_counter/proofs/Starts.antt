@@ -1,7 +1,7 @@
 -- The start of a file that has counters.
 use Rattle.std.proofs.Common.{Option, ◌≡◌, ℕ, suc, List, [], ◌∷◌, None, refl, sym, ap, ◌∙◌}
-use Rattle.js_tree.specs.declared.place.Loc.{Loc}
-use Rattle.js_tree.specs.declared.words.Spelled.{Spelled}
+use Rattle.js_terms.specs.declared.place.Loc.{Loc}
+use Rattle.js_terms.specs.declared.words.Spelled.{Spelled}
 use Rattle.js_tree.specs.Plain.{Stmt, Stmts, no_stmt, more_stmt, FunctionDeclaration, MakeFunction, MakeFunctionBody, no_param}
 use Rattle.js_value.specs.declared.value.Value.{Value}
 use Rattle.js_value.specs.State.{Store}

@@ -1,12 +1,12 @@
 -- The first call of a file's function.
 use Rattle.std.specs.Prelude.{◌≡◌, ℕ, ◌<◌, false, List, [], ◌∷◌, ◌++◌, length, codes, Option, Some, None}
 use Rattle.std.specs.Str.{bytes_eq}
-use Rattle.js_tree.specs.declared.operators.AssignmentOperator.TheVariants as assign
-use Rattle.js_tree.specs.declared.operators.BinaryOperator.TheVariants as binary
-use Rattle.js_tree.specs.declared.operators.LogicalOperator.TheVariants as logic
-use Rattle.js_tree.specs.declared.operators.UnaryOperator.TheVariants as unary
-use Rattle.js_tree.specs.declared.operators.VariableKind.TheVariants as variable
-use Rattle.js_tree.specs.declared.words.Spelled.{Spelled}
+use Rattle.js_terms.specs.declared.operators.AssignmentOperator.TheVariants as assign
+use Rattle.js_terms.specs.declared.operators.BinaryOperator.TheVariants as binary
+use Rattle.js_terms.specs.declared.operators.LogicalOperator.TheVariants as logic
+use Rattle.js_terms.specs.declared.operators.UnaryOperator.TheVariants as unary
+use Rattle.js_terms.specs.declared.operators.VariableKind.TheVariants as variable
+use Rattle.js_terms.specs.declared.words.Spelled.{Spelled}
 use Rattle.js_tree.specs.Codes.{Code, Ordinary}
 use Rattle.js_tree.specs.Plain.{Expr, IdentifierReference, StringLiteral, ObjectLiteral, FunctionExpression, Parenthesized, NamedMember, ComputedMember, Unary, Binary, Logical, Assignment}
 use Rattle.js_tree.specs.Plain.{Stmt, Block, VariableDeclaration, Expression, If, Return, MakeFunction, MakeFunctionBody, MakeDeclarator, BindingIdentifier}

@@ -1,8 +1,8 @@
 -- Literals of data, and what they make.
 use Rattle.std.specs.Prelude.{◌≡◌, ℕ, suc, ◌<◌, ◌≤◌, ◌^◌, Bool, false, List, length, Some, None, pos}
 use Rattle.std.specs.Str.{bytes_eq}
-use Rattle.js_tree.specs.declared.words.Spelled.{Spelled}
-use Rattle.js_tree.specs.declared.operators.UnaryOperator.TheVariants as unary
+use Rattle.js_terms.specs.declared.words.Spelled.{Spelled}
+use Rattle.js_terms.specs.declared.operators.UnaryOperator.TheVariants as unary
 use Rattle.js_tree.specs.Plain.{Expr, Unary, NullLiteral, BooleanLiteral, NumericLiteral, StringLiteral, ArrayLiteral, ObjectLiteral, KeyValue, StringKey, Exprs, no_expr, more_expr, Properties, no_property, more_property}
 use Rattle.js_value.specs.Numbers.{literal_number}
 use Rattle.js_value.specs.State.{Heap, Store}

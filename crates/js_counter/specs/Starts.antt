@@ -1,9 +1,9 @@
 -- The start of a file that has counters: it asks for the step of its function's first call, and goes on at its own statements.
 use Rattle.std.specs.Prelude.{◌≡◌, ◌≢◌, ℕ, suc, ◌+◌, ◌<◌, ◌≤◌, false, List, [], ◌∷◌, ◌++◌, map, length, codes, Option, Some, None}
 use Rattle.std.specs.Str.{bytes_eq}
-use Rattle.js_tree.specs.declared.words.Comment.{Comment}
-use Rattle.js_tree.specs.declared.place.Loc.{Loc}
-use Rattle.js_tree.specs.declared.words.Spelled.{Spelled}
+use Rattle.js_terms.specs.declared.words.Comment.{Comment}
+use Rattle.js_terms.specs.declared.place.Loc.{Loc}
+use Rattle.js_terms.specs.declared.words.Spelled.{Spelled}
 use Rattle.js_tree.specs.Plain.{Directive, FunctionDeclaration, MakeFunction, MakeFunctionBody, no_param, Stmts, more_stmt, MakeFile}
 use Rattle.js_value.specs.declared.value.Value.{Value}
 use Rattle.js_value.specs.declared.built_in.Place.TheVariants.{ObjectPrototype}

@@ -1,7 +1,7 @@
 -- How a counter runs once the file's function has been replaced.
 use Rattle.std.specs.Prelude.{◌≡◌, ℕ, ◌+◌, ◌^◌, ◌<◌, List, [], ◌∷◌, codes, Option, Some, None, pos}
-use Rattle.js_tree.specs.declared.place.Loc.{Loc}
-use Rattle.js_tree.specs.declared.operators.UpdateOperator.TheVariants.{Increment}
+use Rattle.js_terms.specs.declared.place.Loc.{Loc}
+use Rattle.js_terms.specs.declared.operators.UpdateOperator.TheVariants.{Increment}
 use Rattle.js_tree.specs.Codes.{Code, Ordinary}
 use Rattle.js_tree.specs.Plain as P
 use Rattle.js_tree.specs.Plain.{Expr, IdentifierReference, NumericLiteral, NamedMember, ComputedMember, PostfixUpdate, no_expr, no_param, MakeFunction, MakeFunctionBody, more_stmt, no_stmt, some_expr}

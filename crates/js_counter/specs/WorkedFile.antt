@@ -1,6 +1,6 @@
 -- A program of one file with counters, and none of its own statements, in the realm that stands when a program begins.
 use Rattle.std.specs.Prelude.{ℕ, false, List, [], ◌∷◌, codes}
-use Rattle.js_tree.specs.declared.words.Spelled.{Spelled}
+use Rattle.js_terms.specs.declared.words.Spelled.{Spelled}
 use Rattle.js_tree.specs.Plain.{no_stmt, MakeFile}
 use Rattle.js_value.specs.declared.built_in.Place.TheVariants.{Global}
 use Rattle.js_value.specs.Realm.{number_of, realm}

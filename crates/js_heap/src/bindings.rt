@@ -8,7 +8,7 @@ use crate::Assign;
 use crate::environment::Binding;
 use indexmap::IndexMap;
 use items::Memory;
-use js_tree::Name;
+use js_terms::Name;
 use js_value::Value;
 use std::alloc::Global;
 

@@ -9,7 +9,7 @@ use crate::environment::{Binding, Environment};
 use crate::object::{ObjectRecord, Property};
 use crate::{Assign, Cell, Delete, Env, Flags, ObjectKind, Set, keys, texts};
 use items::{Items, Memory};
-use js_tree::Name;
+use js_terms::Name;
 use js_value::{Key, Object, Str, Value};
 use std::alloc::Global;
 

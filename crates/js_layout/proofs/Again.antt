@@ -1,7 +1,7 @@
 -- The text of a file that can be printed is read again as the tree with its parentheses, but for places and comments.
 use Rattle.std.proofs.Common.{◌≡◌, ◌∙◌, Bool, false, List, [], ◌∷◌, ◌++◌, refl, sym, ap, subst}
 use Rattle.std.specs.Str.{chars}
-use Rattle.js_tree.specs.declared.place.Loc.{Loc}
+use Rattle.js_terms.specs.declared.place.Loc.{Loc}
 use Rattle.js_tree.specs.Plain.{File, MakeFile}
 use Rattle.js_text.specs.Token.{Token, Kind, End}
 use Rattle.js_reading.specs.Sentences as sentences

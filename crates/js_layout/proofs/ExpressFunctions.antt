@@ -1,8 +1,8 @@
 -- Functions: their parameters, and their bodies in braces.
 use Rattle.std.proofs.Common.{◌≡◌, Bool, true, false, List, [], ◌∷◌, ◌++◌, Option, Some, None, refl, sym, ap, subst, ◌∙◌, append-nil, append_assoc}
 use Rattle.std.specs.Prelude.{codes}
-use Rattle.js_tree.specs.declared.place.Loc.{Loc}
-use Rattle.js_tree.specs.declared.words.Identifier.{Identifier}
+use Rattle.js_terms.specs.declared.place.Loc.{Loc}
+use Rattle.js_terms.specs.declared.words.Identifier.{Identifier}
 use Rattle.js_tree.specs.Plain.{Expr, Params, Stmts, Function, MakeFunction, MakeFunctionBody}
 use Rattle.js_tree.specs.Plain as tree
 use Rattle.js_tree.specs.Same.{bare_identifier_if}

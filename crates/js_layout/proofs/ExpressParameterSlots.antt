@@ -1,6 +1,6 @@
 -- Parameters of a function, read one by one up to their `)`.
 use Rattle.std.proofs.Common.{◌≡◌, ℕ, Bool, false, List, [], ◌∷◌, ◌++◌, Option, Some, None, refl, sym, ap, subst, ◌∙◌, arith, append_assoc}
-use Rattle.js_tree.specs.declared.place.Loc.{Loc}
+use Rattle.js_terms.specs.declared.place.Loc.{Loc}
 use Rattle.js_tree.specs.Plain.{Param, MakeParam, Params, no_param, more_param, BindingIdentifier, MaybeExpr, none_expr, some_expr, MakeFunction, FunctionBody}
 use Rattle.js_text.specs.Token.{Token, Word}
 use Rattle.js_text.specs.Token as T

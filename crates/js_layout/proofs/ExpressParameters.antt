@@ -1,7 +1,7 @@
 -- Parameters: read one by one in a function, and as items in an arrow's parentheses.
 use Rattle.std.proofs.Common.{◌≡◌, ℕ, ◌≤◌, Bool, true, false, List, [], ◌∷◌, ◌++◌, Option, Some, None, refl, sym, ap, subst, arith, append-nil}
-use Rattle.js_tree.specs.declared.place.Loc.{Loc}
-use Rattle.js_tree.specs.declared.operators.AssignmentOperator.TheVariants as assign
+use Rattle.js_terms.specs.declared.place.Loc.{Loc}
+use Rattle.js_terms.specs.declared.operators.AssignmentOperator.TheVariants as assign
 use Rattle.js_tree.specs.Plain.{Expr, Exprs, no_expr, more_expr, Param, MakeParam, Params, no_param, more_param, BindingIdentifier, MaybeExpr, none_expr, some_expr}
 use Rattle.js_tree.specs.Plain as tree
 use Rattle.js_text.specs.Token.{Token, Word}

@@ -1,7 +1,7 @@
 -- The tokens of the parts of an expression, and the parts of a production.
 use Rattle.std.proofs.Common.{◌≡◌, ℕ, ◌≤◌, Bool, List, [], ◌∷◌, ◌++◌, Option, Some, None, refl, sym, ap, subst, arith, append-nil}
 use Rattle.std.proofs.lemmas.Bool.{le-leb}
-use Rattle.js_tree.specs.declared.place.Loc.{Loc}
+use Rattle.js_terms.specs.declared.place.Loc.{Loc}
 use Rattle.js_tree.specs.Plain.{Expr}
 use Rattle.js_text.specs.Token.{Token, Kind}
 use Rattle.js_reading.specs.Slots.{Level, Slot, Sign, Expr_, Piece, AnExpr}

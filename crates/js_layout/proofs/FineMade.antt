@@ -1,9 +1,9 @@
 -- What each production makes of parts that can be printed can be printed.
 use Rattle.std.proofs.Common.{◌≡◌, Bool, true, false, not, ◌&&◌, List, [], ◌∷◌, Option, Some, None, if◌then◌else◌, refl}
 use Rattle.std.proofs.lemmas.Bool.{and_parts}
-use Rattle.js_tree.specs.declared.place.Loc.{Loc}
-use Rattle.js_tree.specs.declared.operators.VariableKind.{VariableKind}
-use Rattle.js_tree.specs.declared.operators.LogicalOperator.TheVariants as logic
+use Rattle.js_terms.specs.declared.place.Loc.{Loc}
+use Rattle.js_terms.specs.declared.operators.VariableKind.{VariableKind}
+use Rattle.js_terms.specs.declared.operators.LogicalOperator.TheVariants as logic
 use Rattle.js_tree.specs.Plain.{Expr, no_expr, more_expr, Stmt, MaybeExpr, none_expr, some_expr}
 use Rattle.js_tree.specs.Plain as tree
 use Rattle.js_reading.specs.Level.{assignment}

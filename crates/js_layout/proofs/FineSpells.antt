@@ -2,7 +2,7 @@
 use Rattle.std.proofs.Common.{◌≡◌, Bool, true, false, ◌&&◌, List, [], ◌∷◌, ◌++◌, Some, codes, if◌then◌else◌, refl, sym, subst, ◌∙◌}
 use Rattle.std.specs.Prelude.{◌||◌}
 use Rattle.std.proofs.lemmas.Bool.{true≢false, and_parts}
-use Rattle.js_tree.specs.declared.place.Loc.{Loc}
+use Rattle.js_terms.specs.declared.place.Loc.{Loc}
 use Rattle.js_tree.specs.Plain.{Exprs, Stmt, Stmts, File, MakeFile}
 use Rattle.js_tree.specs.Plain as tree
 use Rattle.js_text.specs.Token.{Token}

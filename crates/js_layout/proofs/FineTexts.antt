@@ -1,7 +1,7 @@
 -- The texts of a template are its head, parts in the middle, and its tail, each a token; and where declarations have a word.
 use Rattle.std.proofs.Common.{◌≡◌, ℕ, Bool, true, false, not, List, [], ◌∷◌, ◌++◌, Option, Some, None, if◌then◌else◌, refl, sym, ap, subst}
 use Rattle.std.proofs.lemmas.Bool.{true≢false}
-use Rattle.js_tree.specs.declared.place.Loc.{Loc}
+use Rattle.js_terms.specs.declared.place.Loc.{Loc}
 use Rattle.js_text.specs.Token.{Kind, TemplateHead, TemplateMiddle, TemplateTail, Token}
 use Rattle.js_reading.specs.Spans.{first}
 use Rattle.js_reading.specs.Level.{any}

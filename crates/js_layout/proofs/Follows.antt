@@ -1,6 +1,6 @@
 -- Tokens that are those that were written, and what a token goes on with.
 use Rattle.std.proofs.Common.{◌≡◌, ℕ, ◌<◌, Bool, false, List, [], ◌∷◌, ◌++◌, Option, Some, None, refl, ap}
-use Rattle.js_tree.specs.declared.place.Loc.{Loc}
+use Rattle.js_terms.specs.declared.place.Loc.{Loc}
 use Rattle.js_text.specs.declared.punctuator.Punctuator.TheVariants as P
 use Rattle.js_text.specs.Token.{Token}
 use Rattle.js_spelling.specs.Written.{Written}

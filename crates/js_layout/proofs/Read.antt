@@ -1,6 +1,6 @@
 -- The tokens of each tree that can be printed spell it with its parentheses, but for places: expressions and statements together.
 use Rattle.std.proofs.Common.{◌≡◌, ℕ, ◌≤◌, Bool, true, false, Option, Some, None, refl, sym, subst, ◌∙◌, arith, List}
-use Rattle.js_tree.specs.declared.place.Loc.{Loc}
+use Rattle.js_terms.specs.declared.place.Loc.{Loc}
 use Rattle.js_tree.specs.Plain.{Expr, Exprs, no_expr, more_expr, TemplateParts, MakeTemplatePart, no_template_part, more_template_part, Properties, no_property, more_property, Property, Shorthand, KeyValue, Method, PropertyKey, NameKey, StringKey, NumberKey, ComputedKey, Function, MakeFunction, MakeFunctionBody, EnteredBody, ConciseBody, ExpressionBody, BlockBody, Params, no_param, more_param, MakeParam, BindingIdentifier, MaybeExpr, none_expr, some_expr, Stmts, Stmt, no_stmt, more_stmt, none_stmt, some_stmt, entered_none, NoInit, InitDeclaration, InitExpression, TargetDeclaration, TargetExpression, Declarators, MakeDeclarator, no_declarator, more_declarator, Cases, MakeCase, EnteredCase, no_case, more_case, MakeCatch, Pattern, File}
 use Rattle.js_reading.specs.Level.{assignment, left_level, right_level}
 use Rattle.js_reading.specs.Productions.{member, call, logical_right}

@@ -1,8 +1,8 @@
 -- What the lists of a production make is charged no more than their pieces: parameters, functions, properties, declarators, clauses.
 use Rattle.std.proofs.Common.{◌≡◌, ℕ, zero, suc, ◌+◌, ◌≤◌, Bool, true, false, List, [], ◌∷◌, length, Option, Some, None, if◌then◌else◌, arith}
-use Rattle.js_tree.specs.declared.place.Loc.{Loc}
-use Rattle.js_tree.specs.declared.words.Spelled.{Spelled}
-use Rattle.js_tree.specs.declared.operators.AssignmentOperator.TheVariants as assign
+use Rattle.js_terms.specs.declared.place.Loc.{Loc}
+use Rattle.js_terms.specs.declared.words.Spelled.{Spelled}
+use Rattle.js_terms.specs.declared.operators.AssignmentOperator.TheVariants as assign
 use Rattle.js_tree.specs.Plain.{Expr, Exprs, no_expr, more_expr, Stmt, Stmts, no_stmt, more_stmt, none_expr, some_expr}
 use Rattle.js_tree.specs.Plain as tree
 use Rattle.js_reading.specs.Spans.{through}

@@ -1,7 +1,7 @@
 -- All that tokens spell is charged no more than eight for each byte of their spellings: by induction over the sentence.
 use Rattle.std.proofs.Common.{◌≡◌, ℕ, ◌+◌, ◌*◌, ◌≤◌, nat_le, Bool, true, List, [], ◌∷◌, ◌++◌, length, Some, refl, ap, subst, arith}
 use Rattle.std.proofs.lemmas.Bool.{leb-true}
-use Rattle.js_tree.specs.declared.place.Loc.{Loc}
+use Rattle.js_terms.specs.declared.place.Loc.{Loc}
 use Rattle.js_tree.specs.Plain.{Exprs, Stmts, File, MakeFile}
 use Rattle.js_text.specs.Token.{Kind, Token, spelling}
 use Rattle.js_text.specs.Token as T

@@ -1,6 +1,6 @@
 -- The text of tokens is no longer than their spellings with one byte more for each.
 use Rattle.std.proofs.Common.{◌≡◌, ℕ, ◌+◌, ◌≤◌, Bool, true, false, List, [], ◌∷◌, ◌++◌, length, Option, Some, None, if◌then◌else◌, refl, arith, length-append}
-use Rattle.js_tree.specs.declared.place.Loc.{Loc}
+use Rattle.js_terms.specs.declared.place.Loc.{Loc}
 use Rattle.js_tree.specs.Plain.{Expr, Parenthesized}
 use Rattle.js_text.specs.declared.punctuator.Punctuator.TheVariants as P
 use Rattle.js_text.specs.Token.{spelling}

@@ -1,7 +1,7 @@
 -- The tokens of a tree that has its parentheses spell that tree but for places: what is shown of each kind of part.
 use Rattle.std.proofs.Common.{◌≡◌, ℕ, ◌+◌, Bool, true, false, List, Option, Some, None, codes, if◌then◌else◌}
 use Rattle.std.specs.Prelude.{nat_le, ◌==◌}
-use Rattle.js_tree.specs.declared.place.Loc.{Loc}
+use Rattle.js_terms.specs.declared.place.Loc.{Loc}
 use Rattle.js_tree.specs.Plain as tree
 use Rattle.js_tree.specs.Plain.{Expr, Stmt, Stmts, Function}
 use Rattle.js_text.specs.Token.{Token}

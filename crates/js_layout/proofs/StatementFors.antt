@@ -1,7 +1,7 @@
 -- `for` in its three shapes.
 use Rattle.std.proofs.Common.{◌≡◌, ℕ, Bool, true, false, not, ◌&&◌, List, [], ◌∷◌, ◌++◌, Option, Some, None, codes, refl, sym, ap, ◌∙◌}
 use Rattle.std.proofs.lemmas.Bool.{true≢false}
-use Rattle.js_tree.specs.declared.place.Loc.{Loc}
+use Rattle.js_terms.specs.declared.place.Loc.{Loc}
 use Rattle.js_tree.specs.Plain as tree
 use Rattle.js_tree.specs.Plain.{Expr, Stmt, MaybeExpr, none_expr, some_expr, ForInit, NoInit, InitExpression, no_declarator}
 use Rattle.js_text.specs.Token.{Token, Word}

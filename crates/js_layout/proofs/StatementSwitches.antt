@@ -1,6 +1,6 @@
 -- `switch` and its clauses.
 use Rattle.std.proofs.Common.{◌≡◌, ℕ, Bool, true, false, List, [], ◌∷◌, ◌++◌, Option, Some, None, refl, sym, ap, ◌∙◌, append_assoc}
-use Rattle.js_tree.specs.declared.place.Loc.{Loc}
+use Rattle.js_terms.specs.declared.place.Loc.{Loc}
 use Rattle.js_tree.specs.Plain as tree
 use Rattle.js_tree.specs.Plain.{Expr, Stmts, Cases, no_case, more_case, MakeCase, EnteredCase, none_expr, some_expr}
 use Rattle.js_text.specs.Token.{Token}

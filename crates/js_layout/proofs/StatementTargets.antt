@@ -3,9 +3,9 @@ use Rattle.std.proofs.Common.{◌≡◌, ℕ, ◌<◌, Bool, true, false, not, �
 use Rattle.std.specs.Prelude.{nat_le, ◌==◌}
 use Rattle.std.specs.Str.{bytes_eq}
 use Rattle.std.proofs.lemmas.Bool.{true≢false}
-use Rattle.js_tree.specs.declared.place.Loc.{Loc}
-use Rattle.js_tree.specs.declared.operators.VariableKind.{VariableKind}
-use Rattle.js_tree.specs.declared.operators.VariableKind.TheVariants as variable
+use Rattle.js_terms.specs.declared.place.Loc.{Loc}
+use Rattle.js_terms.specs.declared.operators.VariableKind.{VariableKind}
+use Rattle.js_terms.specs.declared.operators.VariableKind.TheVariants as variable
 use Rattle.js_tree.specs.Plain as tree
 use Rattle.js_tree.specs.Plain.{Expr, Stmt, MaybeExpr, none_expr, some_expr, InitDeclaration, TargetDeclaration, TargetExpression, Declarator, Declarators, MakeDeclarator, no_declarator, more_declarator, BindingIdentifier}
 use Rattle.js_text.specs.Token.{Token, Word}

@@ -1,11 +1,11 @@
 -- Worked examples of printing, each from a source text.
 use Rattle.std.specs.Prelude.{◌≡◌, ℕ, List, [], ◌∷◌, ◌++◌, Option, Some, None, codes, refl}
-use Rattle.js_tree.specs.declared.place.Loc.{Loc}
-use Rattle.js_tree.specs.declared.operators.AssignmentOperator.TheVariants as assign
-use Rattle.js_tree.specs.declared.operators.BinaryOperator.TheVariants as b
-use Rattle.js_tree.specs.declared.operators.UnaryOperator.TheVariants as u
-use Rattle.js_tree.specs.declared.operators.UpdateOperator.TheVariants as up
-use Rattle.js_tree.specs.declared.operators.VariableKind.TheVariants as variable
+use Rattle.js_terms.specs.declared.place.Loc.{Loc}
+use Rattle.js_terms.specs.declared.operators.AssignmentOperator.TheVariants as assign
+use Rattle.js_terms.specs.declared.operators.BinaryOperator.TheVariants as b
+use Rattle.js_terms.specs.declared.operators.UnaryOperator.TheVariants as u
+use Rattle.js_terms.specs.declared.operators.UpdateOperator.TheVariants as up
+use Rattle.js_terms.specs.declared.operators.VariableKind.TheVariants as variable
 use Rattle.js_tree.specs.Plain as tree
 use Rattle.js_tree.specs.Plain.{Expr, Stmt, no_stmt, more_stmt, no_expr, none_expr, some_expr, no_property, no_param, more_param, no_declarator, more_declarator, File, MakeFile}
 use Rattle.std.specs.Str.{chars}

@@ -1,6 +1,6 @@
 -- How a file is printed: its text, and from where in the source its tokens come.
 use Rattle.std.specs.Prelude.{ℕ, ◌+◌, Bool, true, false, List, [], ◌∷◌, ◌++◌, length, map, Option, Some, None}
-use Rattle.js_tree.specs.declared.place.Pos.{Pos}
+use Rattle.js_terms.specs.declared.place.Pos.{Pos}
 use Rattle.js_tree.specs.Plain.{File}
 use Rattle.js_text.specs.Position.{position}
 use Rattle.js_text.specs.Token.{spelling}

@@ -1,7 +1,7 @@
 ghost use Rattle.std.specs.Prelude.{Some};
 ghost use Rattle.js_tree.specs.Plain as tree;
 ghost use Rattle.js_lexer.specs.Token.{kind_of};
-ghost use Rattle.js_tree.specs.declared.place.Loc.{Loc};
+ghost use Rattle.js_terms.specs.declared.place.Loc.{Loc};
 ghost use Rattle.js_reading.specs.Productions as productions;
 ghost use Rattle.js_reading.specs.declared.class.Class.TheVariants as class;
 ghost use Rattle.js_reading.specs.Slots as slot;

@@ -3,7 +3,7 @@ use Rattle.std.proofs.Common.{◌≡◌, ℕ, zero, suc, ◌-◌, ◌≤◌, ◌
 use Rattle.std.specs.Str.{IsCharBoundary}
 use Rattle.std.proofs.lemmas.Bool.{eqb-true}
 use Rattle.std.proofs.lemmas.Str.{encodes-chars}
-use Rattle.js_tree.specs.declared.place.Pos.{Pos}
+use Rattle.js_terms.specs.declared.place.Pos.{Pos}
 use Rattle.js_text.specs.Place.{Place, place_at}
 use Rattle.js_text.specs.Character.{is_gap}
 use Rattle.js_text.specs.Comment.{comment_rest, begins_hashbang, single_line_rest}

@@ -3,8 +3,8 @@ use Rattle.std.proofs.Common.{◌≡◌, ℕ, zero, ◌-◌, ◌<◌, ◌==◌, 
 use Rattle.std.specs.Str.{IsCharBoundary}
 use Rattle.std.proofs.Math.Seq.{take-append_seam}
 use Rattle.std.proofs.lemmas.Str.{chars-append, IsUtf8-take}
-use Rattle.js_tree.specs.declared.place.Pos.{Pos}
-use Rattle.js_tree.specs.declared.words.Comment.{Comment}
+use Rattle.js_terms.specs.declared.place.Pos.{Pos}
+use Rattle.js_terms.specs.declared.words.Comment.{Comment}
 use Rattle.js_text.specs.Place.{Place, place_at}
 use Rattle.js_text.specs.Position.{is_line_terminator}
 use Rattle.js_text.specs.Character.{is_gap}

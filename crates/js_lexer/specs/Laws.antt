@@ -1,7 +1,7 @@
 -- What holds of tokens and of the comments before them.
 use Rattle.std.specs.Prelude.{◌≡◌, ℕ, ◌≤◌, true, List, length, map, Some}
 use Rattle.std.specs.Str.{chars, IsUtf8, IsCharBoundary}
-use Rattle.js_tree.specs.declared.place.Pos.{Pos}
+use Rattle.js_terms.specs.declared.place.Pos.{Pos}
 use Rattle.js_text.specs.Place.{Place, place_at}
 use Rattle.js_text.specs.declared.goal.Goal.{Goal}
 use Rattle.js_text.specs.declared.punctuator.Punctuator.{Punctuator}

@@ -12,8 +12,8 @@ use crate::comment::{skip_comment, skip_single_line};
 use crate::gap::begins_hashbang;
 use crate::scan::{advance, between, skip};
 use items::{Items, Memory, Text};
+use js_terms::{Comment, Pos};
 use js_text::Cursor;
-use js_tree::{Comment, Pos};
 use std::alloc::Global;
 
 /// The comments before a token of a text, whose `comments` and start are given: those that stand at

@@ -9,8 +9,8 @@ ghost use Rattle.js_text.specs.declared.goal.Goal.TheVariants as goal;
 use crate::gap::skip_gap;
 use crate::kind::kind;
 use crate::{Goal, Span, Token};
+use js_terms::{Loc, Pos};
 use js_text::{Cursor, Text};
-use js_tree::{Loc, Pos};
 use std::marker::Model;
 
 /// No token stands at this place for the goal that was asked for.

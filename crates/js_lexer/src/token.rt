@@ -1,5 +1,5 @@
 use crate::Punctuator;
-use js_tree::Loc;
+use js_terms::Loc;
 
 /// What a token is. All but punctuators lend their spelling from the text.
 #[derive(Clone, Copy, Debug, PartialEq, Eq)]

@@ -2,8 +2,8 @@
 use Rattle.std.proofs.Common.{◌≡◌, ℕ, Bool, true, false, List, [], ◌∷◌, ◌++◌, map, Option, Some, None, refl, sym, ap, ap₂, ◌∙◌, subst, if◌then◌else◌, codes, arith}
 use Rattle.std.specs.List.{AllZip}
 use Rattle.std.specs.Prelude.{option_and_then}
-use Rattle.js_tree.specs.declared.place.Loc.{Loc}
-use Rattle.js_tree.specs.Mark.{Mark}
+use Rattle.js_terms.specs.declared.place.Loc.{Loc}
+use Rattle.js_terms.specs.Mark.{Mark}
 use Rattle.js_tree.specs.Plain as P
 use Rattle.js_tree.specs.Plain.{Expr, Directive, Stmts, no_stmt, more_stmt}
 use Rattle.js_tree.specs.Plain.{MaybeExpr, none_expr, some_expr, BindingIdentifier}

@@ -1,12 +1,12 @@
 -- Expressions go in step with their rewriting.
 use Rattle.std.proofs.Common.{◌≡◌, ◌≢◌, ℕ, suc, Bool, true, false, List, [], ◌∷◌, ◌++◌, Option, Some, None, refl, sym, ap, ◌∙◌, subst, if◌then◌else◌, codes, Ok, Err, is_some, ℤ, arith}
 use Rattle.std.specs.Prelude.{option_map}
-use Rattle.js_tree.specs.declared.operators.BinaryOperator.{BinaryOperator}
-use Rattle.js_tree.specs.declared.operators.BinaryOperator.TheVariants as binary_operator
-use Rattle.js_tree.specs.declared.operators.UnaryOperator.{UnaryOperator}
-use Rattle.js_tree.specs.declared.operators.UnaryOperator.TheVariants as unary_operator
-use Rattle.js_tree.specs.declared.operators.UpdateOperator.{UpdateOperator}
-use Rattle.js_tree.specs.Mark.{Mark}
+use Rattle.js_terms.specs.declared.operators.BinaryOperator.{BinaryOperator}
+use Rattle.js_terms.specs.declared.operators.BinaryOperator.TheVariants as binary_operator
+use Rattle.js_terms.specs.declared.operators.UnaryOperator.{UnaryOperator}
+use Rattle.js_terms.specs.declared.operators.UnaryOperator.TheVariants as unary_operator
+use Rattle.js_terms.specs.declared.operators.UpdateOperator.{UpdateOperator}
+use Rattle.js_terms.specs.Mark.{Mark}
 use Rattle.js_tree.specs.Codes.{Code, Ordinary, OfMethod, Arrow}
 use Rattle.js_tree.specs.Plain as P
 use Rattle.js_tree.specs.Plain.{Expr, IdentifierReference, This, NullLiteral, BooleanLiteral, NumericLiteral, StringLiteral, ArrayLiteral, ObjectLiteral, FunctionExpression, ArrowFunction, RegularExpressionLiteral, TemplateLiteral, Parenthesized, NamedMember, ComputedMember, New, PostfixUpdate, PrefixUpdate, Unary, Binary, Logical, Conditional, Assignment, Comma, Entered, Exprs, no_expr, more_expr}

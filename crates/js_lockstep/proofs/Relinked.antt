@@ -1,9 +1,9 @@
 -- A tree with its counters is linked as it is, where its functions are numbered one after another from a shift further.
 use Rattle.std.proofs.Common.{◌≡◌, ℕ, suc, ◌+◌, Bool, true, false, List, [], ◌∷◌, ◌++◌, map, length, Option, Some, None, refl, sym, ap, ap₂, ◌∙◌, subst, arith}
 use Rattle.std.proofs.lemmas.List.{append-nil, length-append}
-use Rattle.js_tree.specs.Mark.{Mark}
-use Rattle.js_tree.specs.declared.place.Loc.{Loc}
-use Rattle.js_tree.specs.declared.words.Identifier.{Identifier}
+use Rattle.js_terms.specs.Mark.{Mark}
+use Rattle.js_terms.specs.declared.place.Loc.{Loc}
+use Rattle.js_terms.specs.declared.words.Identifier.{Identifier}
 use Rattle.js_tree.specs.Plain.{Expr, IdentifierReference, This, NullLiteral, BooleanLiteral, NumericLiteral, StringLiteral, ArrayLiteral, ObjectLiteral, FunctionExpression, ArrowFunction, RegularExpressionLiteral, TemplateLiteral, Parenthesized, NamedMember, ComputedMember, New, Call, PostfixUpdate, PrefixUpdate, Unary, Binary, Logical, Conditional, Assignment, Comma, Entered}
 use Rattle.js_tree.specs.Plain.{Stmt, Directive, Block, VariableDeclaration, Empty, Expression, If, DoWhile, While, For, ForIn, ForOf, Continue, Break, Return, Switch, Labelled, Throw, TryCatch, TryFinally, TryCatchFinally, Debugger, FunctionDeclaration, EnteredStmt}
 use Rattle.js_tree.specs.Plain.{Property, Shorthand, KeyValue, Method}
@@ -29,7 +29,7 @@ use Rattle.js_tree.specs.Plain.{Declarators, no_declarator, more_declarator}
 use Rattle.js_tree.specs.Plain.{Cases, no_case, more_case}
 use Rattle.js_tree.specs.Codes.{Code, Ordinary, OfMethod, Arrow, number_of, from_code, functions_expr, functions_stmt, functions_property, functions_property_key, functions_concise_body, functions_for_init, functions_for_target, functions_template_part, functions_function, functions_function_body, functions_param, functions_declarator, functions_case, functions_catch, functions_expr_if, functions_stmt_if, functions_exprs, functions_template_parts, functions_properties, functions_params, functions_stmts, functions_declarators, functions_cases}
 use Rattle.js_tree.specs.Linked.{Unmarked, Numbers, Linked, Uncounted, Chain, Alone, Operand, operand, enter_leaf, kept, made, two, three, four, after_code, enter_concise_body, labelled, link_expr, link_stmt, link_property, link_property_key, link_concise_body, link_for_init, link_for_target, link_template_part, link_function, link_function_body, link_param, link_declarator, link_case, link_catch, link_expr_if, link_stmt_if, link_exprs, link_template_parts, link_properties, link_params, link_stmts, link_declarators, link_cases}
-use Rattle.js_tree.specs.declared.operators.LogicalOperator.{LogicalOperator}
+use Rattle.js_terms.specs.declared.operators.LogicalOperator.{LogicalOperator}
 use Rattle.cov_rewritten.specs.Counters.{text, with_name}
 use Rattle.cov_rewritten.specs.Rewritten.{expr_marks, stmt_marks, arm_marks, hoisted_marks, is_any, is_anonymous, bound_name, joined, after_directives, inside, block_place}
 use Rattle.js_suits.specs.Rewritten as L

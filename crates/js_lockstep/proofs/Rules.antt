@@ -1,7 +1,7 @@
 -- One computation after another, and the only induction on steps.
 use Rattle.std.proofs.Common.{◌≡◌, ℕ, zero, suc, ◌+◌, ◌≤◌, length, refl, sym, ap, ◌∙◌, subst, arith}
 use Rattle.std.proofs.lemmas.List.{length_push}
-use Rattle.js_tree.specs.Mark.{Mark}
+use Rattle.js_terms.specs.Mark.{Mark}
 use Rattle.js_value.specs.declared.value.Value.{Value}
 use Rattle.js_value.specs.State.{Store}
 use Rattle.js_value.specs.Running.{note}

@@ -2,8 +2,8 @@
 use Rattle.std.proofs.Common.{◌≡◌, ◌≢◌, codes, ℕ, suc, Bool, true, false, List, [], ◌∷◌, ◌++◌, map, Some, None, refl, sym, ap, ◌∙◌, subst, arith, if◌then◌else◌}
 use Rattle.std.specs.List.{AllZip}
 use Rattle.std.proofs.lemmas.List.{get_or_append_left}
-use Rattle.js_tree.specs.declared.operators.VariableKind.{VariableKind}
-use Rattle.js_tree.specs.declared.operators.VariableKind.TheVariants as variable
+use Rattle.js_terms.specs.declared.operators.VariableKind.{VariableKind}
+use Rattle.js_terms.specs.declared.operators.VariableKind.TheVariants as variable
 use Rattle.js_tree.specs.Codes.{Code, Ordinary, OfMethod, Arrow}
 use Rattle.js_tree.specs.Plain.{MakeFunction, MakeParam, Params, no_param, more_param, none_expr, some_expr}
 use Rattle.js_value.specs.declared.built_in.Place.TheVariants as place

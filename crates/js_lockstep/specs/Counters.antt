@@ -1,6 +1,6 @@
 -- What is asked of counters.
 use Rattle.std.specs.Prelude.{ℕ, List, Option, None, Some}
-use Rattle.js_tree.specs.Mark.{Mark}
+use Rattle.js_terms.specs.Mark.{Mark}
 use Rattle.js_tree.specs.Codes.{Code}
 use Rattle.js_value.specs.State.{Heap, Store}
 use Rattle.js_meaning.specs.Program.{Sources, function_at}

@@ -1,6 +1,6 @@
 -- A counted file with what stands before its statements, after its directives.
 use Rattle.std.specs.Prelude.{◌≡◌, ℕ, ◌+◌, ◌++◌, true, List, length}
-use Rattle.js_tree.specs.declared.words.Comment.{Comment}
+use Rattle.js_terms.specs.declared.words.Comment.{Comment}
 use Rattle.js_tree.specs.Plain.{File, MakeFile, Stmts}
 use Rattle.js_tree.specs.Linked.{Unmarked, Numbers, link_stmts, link_file}
 use Rattle.js_tree.specs.Codes.{functions_stmts}

@@ -1,8 +1,8 @@
 -- A program with its counters, what is asked of these, and the law.
 use Rattle.std.specs.Prelude.{◌≡◌, ℕ, ◌+◌, map, length, ◌≤◌, Bool, IsTrue, true, List, [], ◌∷◌, Some, None, slice_get}
-use Rattle.js_tree.specs.Mark.{Mark}
+use Rattle.js_terms.specs.Mark.{Mark}
 use Rattle.js_tree.specs.Plain.{MakeFile, Stmts}
-use Rattle.js_tree.specs.declared.words.Comment.{Comment}
+use Rattle.js_terms.specs.declared.words.Comment.{Comment}
 use Rattle.js_tree.specs.Linked.{Unmarked, Alone, Numbers, kept, link_expr, link_stmts}
 use Rattle.js_tree.specs.Codes.{Code, number_of, from_code, functions_stmts}
 use Rattle.js_value.specs.State.{Store}

@@ -1,6 +1,6 @@
 -- Computations of the two runs that go in step, by rules: whatever the stores are, where they are alike.
 use Rattle.std.specs.Prelude.{◌≡◌, ℕ, suc, ◌<◌, ◌≤◌, List, length, true, false, Option, None}
-use Rattle.js_tree.specs.Mark.{Mark}
+use Rattle.js_terms.specs.Mark.{Mark}
 use Rattle.js_tree.specs.Plain.{Stmt, For, EnteredStmt}
 use Rattle.js_value.specs.declared.value.Value.{Value}
 use Rattle.js_value.specs.declared.value.Kind.{Kind}

@@ -1,6 +1,6 @@
 -- Calls of functions of a program, and the names of their bodies.
 use Rattle.std.proofs.Common.{◌≡◌, ℕ, Bool, true, false, List, Option, refl}
-use Rattle.js_tree.specs.declared.place.Loc.{Loc}
+use Rattle.js_terms.specs.declared.place.Loc.{Loc}
 use Rattle.js_tree.specs.Plain as P
 use Rattle.js_tree.specs.Plain.{MakeFunction}
 use Rattle.js_tree.specs.Codes.{Code, Ordinary, OfMethod, Arrow}

@@ -1,10 +1,10 @@
 -- What single forms of the language do, by cases on what they are made of.
 use Rattle.std.proofs.Common.{◌≡◌, ℕ, zero, suc, ◌+◌, ◌-◌, ◌*◌, ◌^◌, ◌<◌, ◌≤◌, Bool, true, false, List, [], ◌∷◌, length, get_or, drop, Option, Some, None, refl, ap, arith, add-one}
 use Rattle.std.proofs.lemmas.Option.{slice_get_past}
-use Rattle.js_tree.specs.declared.place.Loc.{Loc}
+use Rattle.js_terms.specs.declared.place.Loc.{Loc}
 use Rattle.js_tree.specs.Plain as P
-use Rattle.js_tree.specs.declared.operators.UnaryOperator.{UnaryOperator}
-use Rattle.js_tree.specs.declared.operators.UnaryOperator.TheVariants as unary_operator
+use Rattle.js_terms.specs.declared.operators.UnaryOperator.{UnaryOperator}
+use Rattle.js_terms.specs.declared.operators.UnaryOperator.TheVariants as unary_operator
 use Rattle.js_value.specs.declared.value.Value.{Value}
 use Rattle.js_value.specs.declared.value.Value.TheVariants as value
 use Rattle.js_value.specs.declared.value.Primitive.TheVariants as primitive

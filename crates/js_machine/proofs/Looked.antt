@@ -1,9 +1,9 @@
 -- What only looks at the heap.
 use Rattle.std.proofs.Common.{◌≡◌, ℕ, List, IsTrue, Option, Some, None, refl, sym, subst, ap, ◌∙◌, codes, is_some, if◌then◌else◌}
-use Rattle.js_tree.specs.declared.operators.BinaryOperator.{BinaryOperator}
-use Rattle.js_tree.specs.declared.operators.BinaryOperator.TheVariants as binary_operator
-use Rattle.js_tree.specs.declared.operators.UnaryOperator.{UnaryOperator}
-use Rattle.js_tree.specs.declared.operators.UnaryOperator.TheVariants as unary_operator
+use Rattle.js_terms.specs.declared.operators.BinaryOperator.{BinaryOperator}
+use Rattle.js_terms.specs.declared.operators.BinaryOperator.TheVariants as binary_operator
+use Rattle.js_terms.specs.declared.operators.UnaryOperator.{UnaryOperator}
+use Rattle.js_terms.specs.declared.operators.UnaryOperator.TheVariants as unary_operator
 use Rattle.js_value.specs.declared.value.Value.{Value}
 use Rattle.js_value.specs.declared.deed.Complaint.TheVariants.{NotInitialised}
 use Rattle.js_value.specs.Environments.{Cell, lookup, value_of}

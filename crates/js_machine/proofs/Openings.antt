@@ -1,6 +1,6 @@
 -- What the forms of the prelude make that make nothing.
 use Rattle.std.proofs.Common.{◌≡◌, Option, None, refl}
-use Rattle.js_tree.specs.declared.place.Loc.{Loc}
+use Rattle.js_terms.specs.declared.place.Loc.{Loc}
 use Rattle.js_tree.specs.Plain as P
 use Rattle.js_value.specs.State.{Heap}
 use Rattle.js_code.specs.declared.node.Node.{Node}

@@ -1,7 +1,7 @@
 // What an expression begins with.
 
 ghost use Rattle.std.specs.Prelude.{◌≡◌, ◌<◌, ◌+◌, ◌*◌, Option, IfOk};
-ghost use Rattle.js_tree.specs.declared.place.Loc.{Loc};
+ghost use Rattle.js_terms.specs.declared.place.Loc.{Loc};
 ghost use Rattle.js_tree.specs.Plain.{FunctionExpression, Unary};
 ghost use Rattle.js_code.specs.Node.{build, function_of};
 ghost use Rattle.js_code.specs.Part.{as_code, as_expr};

@@ -1,7 +1,7 @@
 // Functions: their parameters and their bodies.
 
 ghost use Rattle.std.specs.Prelude.{◌≡◌, ◌<◌, ◌+◌, ◌*◌, Some, Option, IfOk, drop as dropped};
-ghost use Rattle.js_tree.specs.declared.place.Loc.{Loc};
+ghost use Rattle.js_terms.specs.declared.place.Loc.{Loc};
 ghost use Rattle.js_tree.specs.Plain as P;
 ghost use Rattle.js_code.specs.Node.{build, arrow_body};
 ghost use Rattle.js_code.specs.Part.{as_code, as_params};

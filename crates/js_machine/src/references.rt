@@ -1,9 +1,9 @@
 // References: what an expression is that can be read and assigned to, and what is done with it.
 
 ghost use Rattle.std.specs.Prelude.{◌≡◌, ◌<◌, ◌+◌, ◌*◌, None, Option, IfOk};
-ghost use Rattle.js_tree.specs.declared.place.Loc.{Loc};
+ghost use Rattle.js_terms.specs.declared.place.Loc.{Loc};
 ghost use Rattle.js_tree.specs.Plain.{FunctionExpression};
-ghost use Rattle.js_tree.specs.declared.operators.UnaryOperator.TheVariants as unary_operator;
+ghost use Rattle.js_terms.specs.declared.operators.UnaryOperator.TheVariants as unary_operator;
 ghost use Rattle.js_code.specs.Node.{build, function_of};
 ghost use Rattle.js_code.specs.Part.{as_code, as_expr};
 ghost use Rattle.js_meaning.specs.Effects.{handle};

@@ -1,7 +1,7 @@
 // What a statement begins with.
 
 ghost use Rattle.std.specs.Prelude.{◌≡◌, ◌<◌, ◌+◌, ◌*◌, [], ◌∷◌, Option, IfOk, option_map};
-ghost use Rattle.js_tree.specs.declared.place.Loc.{Loc};
+ghost use Rattle.js_terms.specs.declared.place.Loc.{Loc};
 ghost use Rattle.js_tree.specs.Plain as P;
 ghost use Rattle.js_code.specs.Node.{build};
 ghost use Rattle.js_code.specs.Part.{as_catch, as_declarators, as_for_init, as_stmt};

@@ -1,11 +1,11 @@
 -- The marks of a linked tree are those of its constructs.
 use Rattle.std.proofs.Common.{◌≡◌, ℕ, suc, ◌+◌, Bool, true, false, List, [], ◌∷◌, ◌++◌, length, Option, Some, None, refl, sym, ap, ◌∙◌, arith, append_assoc, append-nil}
-use Rattle.js_tree.specs.declared.construct.BranchKind.{BranchKind}
-use Rattle.js_tree.specs.declared.construct.Construct.{Construct}
-use Rattle.js_tree.specs.declared.construct.Construct.TheVariants as construct
-use Rattle.js_tree.specs.declared.place.Loc.{Loc}
-use Rattle.js_tree.specs.declared.construct.ConstructKind.TheVariants as construct_kind
-use Rattle.js_tree.specs.declared.words.Identifier.{Identifier}
+use Rattle.js_terms.specs.declared.construct.BranchKind.{BranchKind}
+use Rattle.js_terms.specs.declared.construct.Construct.{Construct}
+use Rattle.js_terms.specs.declared.construct.Construct.TheVariants as construct
+use Rattle.js_terms.specs.declared.place.Loc.{Loc}
+use Rattle.js_terms.specs.declared.construct.ConstructKind.TheVariants as construct_kind
+use Rattle.js_terms.specs.declared.words.Identifier.{Identifier}
 use Rattle.js_tree.specs.Entered.{PlacedMark, placed, with_place, places_of, place_by, places_after, how_many, entered_expr, entered_stmt, entered_property, entered_property_key, entered_concise_body, entered_for_init, entered_for_target, entered_template_part, entered_function, entered_function_body, entered_param, entered_declarator, entered_case, entered_catch, entered_expr_if, entered_stmt_if, entered_exprs, entered_template_parts, entered_properties, entered_params, entered_stmts, entered_declarators, entered_cases}
 use Rattle.js_meaning.specs.Counted.{kind_of, after, marks_of, numbered, paths_from, MarksEnter, MarksConstructs}
 use Rattle.js_tree.specs.Plain.{Expr, IdentifierReference, This, NullLiteral, BooleanLiteral, NumericLiteral, StringLiteral, ArrayLiteral, ObjectLiteral, FunctionExpression, ArrowFunction, RegularExpressionLiteral, TemplateLiteral, Parenthesized, NamedMember, ComputedMember, New, Call, PostfixUpdate, PrefixUpdate, Unary, Binary, Logical, Conditional, Assignment, Comma, Entered}
@@ -33,7 +33,7 @@ use Rattle.js_tree.specs.Plain.{Stmts, no_stmt, more_stmt}
 use Rattle.js_tree.specs.Plain.{Declarators, no_declarator, more_declarator}
 use Rattle.js_tree.specs.Plain.{Cases, no_case, more_case}
 use Rattle.js_tree.specs.Plain.{MakeFile}
-use Rattle.js_tree.specs.declared.construct.BranchKind.TheVariants as branch_kind
+use Rattle.js_terms.specs.declared.construct.BranchKind.TheVariants as branch_kind
 use Rattle.js_tree.specs.Places.{bare_place, expr_place, stmt_place, stmt_if_place, property_place, param_place, declarator_place, case_place, body_place, braced_place, concise_place}
 use Rattle.js_tree.specs.declared.hint.Hint.TheVariants as hint
 use Rattle.js_tree.specs.Hints.{Heed, Ignored, Heeding, heed, heed_arm, heed_comments, heeded_place, path_in, case_paths, leaf_paths}

@@ -1,7 +1,7 @@
 -- A run without counting ends and prints as the counted one.
 use Rattle.std.proofs.Common.{◌≡◌, ℕ, ◌-◌, List, Option, Some, None, refl, ap, ◌∙◌, subst}
 use Rattle.std.specs.Prelude.{option_map}
-use Rattle.js_tree.specs.Mark.{Mark}
+use Rattle.js_terms.specs.Mark.{Mark}
 use Rattle.js_value.specs.State.{Store}
 use Rattle.js_meaning.specs.declared.outcome.Outcome.{Outcome}
 use Rattle.js_meaning.specs.declared.outcome.Outcome.TheVariants.{Completes, Refuses, Stops}

@@ -2,12 +2,12 @@
 use Rattle.std.proofs.Common.{◌≡◌, ℕ, zero, suc, ◌+◌, true, List, [], ◌∷◌, ◌++◌, Option, Some, refl, sym, ap, ◌∙◌, subst, arith}
 use Rattle.std.specs.Prelude.{slice_get}
 use Rattle.std.proofs.lemmas.List.{length_push}
-use Rattle.js_tree.specs.Mark.{Mark}
+use Rattle.js_terms.specs.Mark.{Mark}
 use Rattle.js_tree.specs.Marked.{one_if}
 use Rattle.js_tree.specs.Plain.{Expr, Stmt, While, DoWhile, For, ForIn, ForOf, ForInit, ForTarget, MaybeExpr}
 use Rattle.js_value.specs.Iterations.{Iteration}
 use Rattle.js_tree.specs.Unmarked.{unmarked_expr, unmarked_stmt}
-use Rattle.js_tree.specs.declared.place.Loc.{Loc}
+use Rattle.js_terms.specs.declared.place.Loc.{Loc}
 use Rattle.js_value.specs.declared.value.Value.{Value}
 use Rattle.js_value.specs.declared.value.Kind.{Kind}
 use Rattle.js_value.specs.State.{Store}

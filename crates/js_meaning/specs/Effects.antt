@@ -1,7 +1,7 @@
 -- What a tree does, as a computation: a tree of its effects on the store, which asks for a step where the profile charges one.
 use Rattle.std.specs.Prelude.{ℕ, zero, suc, List, Option}
 use Rattle.js_tree.specs.Plain.{Stmt}
-use Rattle.js_tree.specs.Mark.{Mark}
+use Rattle.js_terms.specs.Mark.{Mark}
 use Rattle.js_value.specs.State.{Store}
 use Rattle.js_value.specs.declared.value.Value.{Value}
 use Rattle.js_value.specs.declared.value.Kind.{Kind}

@@ -1,7 +1,7 @@
 -- What a reader expects of the meaning, as laws.
 use Rattle.std.specs.Prelude.{◌≡◌, ℕ, zero, suc, ◌+◌, ◌-◌, ◌≤◌, length, slice_get, Bool, false, List, [], ◌∷◌, ◌++◌, Option, Some, None, if◌then◌else◌}
-use Rattle.js_tree.specs.declared.place.Loc.{Loc}
-use Rattle.js_tree.specs.Mark.{Mark}
+use Rattle.js_terms.specs.declared.place.Loc.{Loc}
+use Rattle.js_terms.specs.Mark.{Mark}
 use Rattle.js_tree.specs.Marked.{one_if}
 use Rattle.js_tree.specs.Codes.{Code, number_of}
 use Rattle.js_tree.specs.Plain.{Expr, Stmt, Stmts, MaybeStmt, more_stmt, While, If}

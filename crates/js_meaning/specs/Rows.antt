@@ -1,14 +1,14 @@
 -- Worked examples: what the marks of small programs are, and which constructs are entered in which order, with how many steps. What a
 -- program prints and how it ends is shown by the rows of `suite_rows`.
 use Rattle.std.specs.Prelude.{◌≡◌, ℕ, true, List, [], ◌∷◌, Option, Some, None, codes}
-use Rattle.js_tree.specs.declared.place.Loc.{Loc}
-use Rattle.js_tree.specs.declared.operators.BinaryOperator.{BinaryOperator}
-use Rattle.js_tree.specs.declared.operators.BinaryOperator.TheVariants as binary
-use Rattle.js_tree.specs.declared.operators.LogicalOperator.TheVariants as logical
-use Rattle.js_tree.specs.declared.operators.AssignmentOperator.TheVariants as assignment
-use Rattle.js_tree.specs.declared.operators.VariableKind.TheVariants as variable
-use Rattle.js_tree.specs.declared.construct.ConstructKind.TheVariants as construct_kind
-use Rattle.js_tree.specs.Mark.{Mark}
+use Rattle.js_terms.specs.declared.place.Loc.{Loc}
+use Rattle.js_terms.specs.declared.operators.BinaryOperator.{BinaryOperator}
+use Rattle.js_terms.specs.declared.operators.BinaryOperator.TheVariants as binary
+use Rattle.js_terms.specs.declared.operators.LogicalOperator.TheVariants as logical
+use Rattle.js_terms.specs.declared.operators.AssignmentOperator.TheVariants as assignment
+use Rattle.js_terms.specs.declared.operators.VariableKind.TheVariants as variable
+use Rattle.js_terms.specs.declared.construct.ConstructKind.TheVariants as construct_kind
+use Rattle.js_terms.specs.Mark.{Mark}
 use Rattle.js_tree.specs.Plain.{Expr, IdentifierReference, NumericLiteral, ArrowFunction, NamedMember, Binary, Logical, Assignment, Call, Exprs, no_expr, more_expr, none_expr, some_expr}
 use Rattle.js_tree.specs.Plain.{Stmt, Block, VariableDeclaration, Expression, If, Labelled, While, Switch, Break, Return, Throw, FunctionDeclaration, EnteredStmt, Stmts, no_stmt, more_stmt, none_stmt, File, MakeFile}
 use Rattle.js_tree.specs.Plain.{MakeDeclarator, no_declarator, more_declarator, BindingIdentifier, MakeCase, no_case, more_case}

@@ -1,8 +1,8 @@
 -- What a scope declares (ECMA-262, 8.2), and how it is made (9.2.11, 10.2.11, 14.2.3, 14.7.4.2).
 use Rattle.std.specs.Prelude.{ℕ, suc, Bool, true, false, ◌||◌, List, [], ◌∷◌, ◌++◌, map, Option, Some, None, option_and_then, if◌then◌else◌}
 use Rattle.std.specs.Str.{bytes_eq}
-use Rattle.js_tree.specs.declared.operators.VariableKind.{VariableKind}
-use Rattle.js_tree.specs.declared.operators.VariableKind.TheVariants as variable
+use Rattle.js_terms.specs.declared.operators.VariableKind.{VariableKind}
+use Rattle.js_terms.specs.declared.operators.VariableKind.TheVariants as variable
 use Rattle.js_tree.specs.Plain.{Stmt, VariableDeclaration, FunctionDeclaration, EnteredStmt, Stmts, no_stmt, more_stmt, Declarators, no_declarator, more_declarator, MakeDeclarator, Pattern, BindingIdentifier}
 use Rattle.js_tree.specs.Plain.{ForInit, NoInit, InitDeclaration, InitExpression, ForTarget, TargetDeclaration, TargetExpression, Cases, no_case, more_case, Case, MakeCase, EnteredCase, Params, no_param, more_param, MakeParam, none_expr, some_expr, FunctionBody, MakeFunctionBody, EnteredBody, ConciseBody, ExpressionBody, BlockBody, MakeFunction}
 use Rattle.js_tree.specs.Codes.{Code, Ordinary, OfMethod, Arrow, number_of, is_constructor}

@@ -1,7 +1,7 @@
 -- What an instrumented text has in another shape than its source means the same.
 use Rattle.std.specs.Prelude.{◌≡◌, ℕ, List, [], Option, Some}
-use Rattle.js_tree.specs.declared.place.Loc.{Loc}
-use Rattle.js_tree.specs.declared.words.Spelled.{Spelled}
+use Rattle.js_terms.specs.declared.place.Loc.{Loc}
+use Rattle.js_terms.specs.declared.words.Spelled.{Spelled}
 use Rattle.js_tree.specs.Plain.{Expr, StringLiteral, ObjectLiteral, ComputedMember, KeyValue, ComputedKey, no_property, more_property, Stmt, Block, Stmts, no_stmt, more_stmt}
 use Rattle.js_tree.specs.Codes.{Code}
 use Rattle.js_value.specs.declared.built_in.Place.TheVariants.{ObjectPrototype}

@@ -1,8 +1,8 @@
 -- The names that `var` declares in a function's body (ECMA-262, 8.2.6, VarDeclaredNames), in the order of its text, as the early rules
 -- have them; and how a walk through the body meets them.
 use Rattle.std.specs.Prelude.{◌≡◌, ℕ, Bool, true, false, List, [], ◌∷◌, map, Option, Some, None}
-use Rattle.js_tree.specs.declared.operators.VariableKind.{VariableKind}
-use Rattle.js_tree.specs.declared.operators.VariableKind.TheVariants as variable
+use Rattle.js_terms.specs.declared.operators.VariableKind.{VariableKind}
+use Rattle.js_terms.specs.declared.operators.VariableKind.TheVariants as variable
 use Rattle.js_tree.specs.Plain.{VariableDeclaration, InitDeclaration, TargetDeclaration, BindingIdentifier, Stmts}
 use Rattle.js_walk.specs.Part.{Part, AnExpr, AStmt, AForInit, AForTarget, AFunction, ADeclarator, APattern}
 use Rattle.js_walk.specs.Walk.{within_stmts}

@@ -1,5 +1,5 @@
 ghost use Rattle.std.specs.Prelude.{◌≡◌, ◌++◌, Option, IfOk};
-ghost use Rattle.js_tree.specs.declared.place.Loc.{Loc};
+ghost use Rattle.js_terms.specs.declared.place.Loc.{Loc};
 ghost use Rattle.js_tree.specs.Tree.{plain_expr, plain_stmts};
 ghost use Rattle.js_walk.specs.Part.{AnExpr};
 ghost use Rattle.js_reading.specs.Outside.{own_this, outside_functions, is_there, this_stmts};

@@ -1,7 +1,7 @@
 -- What a reader keeps of the turns is what the finds of the definition look at.
 use Rattle.std.proofs.Common.{◌≡◌, Bool, true, false, List, [], ◌∷◌, ◌++◌, Some, None, if◌then◌else◌, refl, sym, ap, ◌∙◌}
 use Rattle.std.specs.Prelude.{◌&&◌, ◌||◌}
-use Rattle.js_tree.specs.declared.place.Loc.{Loc}
+use Rattle.js_terms.specs.declared.place.Loc.{Loc}
 use Rattle.js_text.specs.Token.{Token}
 use Rattle.js_lexer.specs.Token.{plain_token}
 use Rattle.js_text.specs.declared.punctuator.Punctuator.TheVariants as P

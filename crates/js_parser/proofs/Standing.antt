@@ -4,8 +4,8 @@ use Rattle.std.specs.Option.{option_map}
 use Rattle.std.proofs.lemmas.Bool.{true≢false}
 use Rattle.std.specs.Str.{chars, IsUtf8}
 use Rattle.std.proofs.lemmas.Str.{length-le-encodes, encodes-chars}
-use Rattle.js_tree.specs.declared.place.Loc.{Loc}
-use Rattle.js_tree.specs.declared.words.Comment.{Comment}
+use Rattle.js_terms.specs.declared.place.Loc.{Loc}
+use Rattle.js_terms.specs.declared.words.Comment.{Comment}
 use Rattle.js_tree.specs.Plain.{File, MakeFile, Stmts}
 use Rattle.js_tree.specs.Height.{height_stmts, height_file}
 use Rattle.js_text.specs.Place.{Place}

@@ -1,6 +1,6 @@
 -- What a reader keeps of the turns so far.
 use Rattle.std.specs.Prelude.{◌≡◌, List, [], ◌∷◌, Option, Some, None}
-use Rattle.js_tree.specs.declared.place.Loc.{Loc}
+use Rattle.js_terms.specs.declared.place.Loc.{Loc}
 use Rattle.js_lexer.specs.Token.{plain_token}
 use Rattle.js_text.specs.Token.{Token}
 use Rattle.js_reading.specs.Turns.{Config}

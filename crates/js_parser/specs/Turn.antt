@@ -1,8 +1,8 @@
 -- What one turn of the reader does: it asks for a token with the goal of its place, and takes it.
 use Rattle.std.specs.Prelude.{◌≡◌, ℕ, ◌<◌, ◌≤◌, ◌^◌, Bool, true, false, List, length, None, Some, ◌⊎◌, Result, Ok, Err}
 use Rattle.std.specs.Str.{chars}
-use Rattle.js_tree.specs.declared.place.Loc.{Loc}
-use Rattle.js_tree.specs.declared.words.Comment.{Comment}
+use Rattle.js_terms.specs.declared.place.Loc.{Loc}
+use Rattle.js_terms.specs.declared.words.Comment.{Comment}
 use Rattle.js_tree.specs.Plain.{Stmts}
 use Rattle.js_tree.specs.Height.{height_stmts}
 use Rattle.js_text.specs.Place.{Place}

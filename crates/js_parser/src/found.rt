@@ -1,5 +1,5 @@
 ghost use Rattle.std.specs.Prelude.{◌≡◌, not, ◌&&◌, ◌||◌, codes, IfOk, Some};
-ghost use Rattle.js_tree.specs.declared.place.Loc.{Loc};
+ghost use Rattle.js_terms.specs.declared.place.Loc.{Loc};
 ghost use Rattle.js_text.specs.declared.punctuator.Punctuator.TheVariants as P;
 ghost use Rattle.js_lexer.specs.Token.{plain_token};
 ghost use Rattle.js_reading.specs.declared.class.Class.TheVariants as slot;

@@ -1,5 +1,5 @@
 ghost use Rattle.std.specs.Prelude.{◌≡◌, ◌∷◌, [], IfOk, OnOk};
-ghost use Rattle.js_tree.specs.declared.place.Loc.{Loc};
+ghost use Rattle.js_terms.specs.declared.place.Loc.{Loc};
 ghost use Rattle.js_lexer.specs.Token.{plain_token};
 ghost use Rattle.js_reading.specs.Turns.{Config};
 ghost use Rattle.js_reading.specs.Found as spec;

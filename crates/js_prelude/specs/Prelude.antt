@@ -5,15 +5,15 @@ use Rattle.js_tree.specs.Plain.{Expr, IdentifierReference, This, BooleanLiteral,
 use Rattle.js_tree.specs.Plain.{Stmt, Block, VariableDeclaration, Expression, If, For, Return, Throw, Stmts, none_stmt, ForInit, InitDeclaration, Declarators, no_declarator, more_declarator, MakeDeclarator, BindingIdentifier}
 use Rattle.js_tree.specs.Plain.{Property, Method, NameKey, Properties, Function, MakeFunction, MakeFunctionBody, Param, MakeParam, no_param, more_param, File, MakeFile}
 use Rattle.js_tree.specs.Tree.{exprs_of, stmts_of, properties_of}
-use Rattle.js_tree.specs.declared.operators.AssignmentOperator.TheVariants as assignment
-use Rattle.js_tree.specs.declared.operators.BinaryOperator.{BinaryOperator}
-use Rattle.js_tree.specs.declared.operators.BinaryOperator.TheVariants as binary
-use Rattle.js_tree.specs.declared.operators.LogicalOperator.TheVariants as logical
-use Rattle.js_tree.specs.declared.operators.UnaryOperator.{UnaryOperator}
-use Rattle.js_tree.specs.declared.operators.UnaryOperator.TheVariants as unary
-use Rattle.js_tree.specs.declared.operators.UpdateOperator.TheVariants as update
-use Rattle.js_tree.specs.declared.operators.VariableKind.TheVariants as variable
-use Rattle.js_tree.specs.declared.words.Spelled.{Spelled}
+use Rattle.js_terms.specs.declared.operators.AssignmentOperator.TheVariants as assignment
+use Rattle.js_terms.specs.declared.operators.BinaryOperator.{BinaryOperator}
+use Rattle.js_terms.specs.declared.operators.BinaryOperator.TheVariants as binary
+use Rattle.js_terms.specs.declared.operators.LogicalOperator.TheVariants as logical
+use Rattle.js_terms.specs.declared.operators.UnaryOperator.{UnaryOperator}
+use Rattle.js_terms.specs.declared.operators.UnaryOperator.TheVariants as unary
+use Rattle.js_terms.specs.declared.operators.UpdateOperator.TheVariants as update
+use Rattle.js_terms.specs.declared.operators.VariableKind.TheVariants as variable
+use Rattle.js_terms.specs.declared.words.Spelled.{Spelled}
 
 -- ---- expressions (13)
 

@@ -1,6 +1,6 @@
 -- Tokens put one part after another, as the code puts them.
 use Rattle.std.proofs.Common.{◌≡◌, ℕ, List, [], ◌∷◌, ◌++◌, Option, sym, subst}
-use Rattle.js_tree.specs.declared.place.Loc.{Loc}
+use Rattle.js_terms.specs.declared.place.Loc.{Loc}
 use Rattle.js_tree.specs.Plain.{Expr, Pattern, PropertyKey}
 use Rattle.js_spelling.specs.Written.{Written}
 use Rattle.js_layout.specs.Tokens.{begun, expr_tokens, pattern_tokens, key_tokens}

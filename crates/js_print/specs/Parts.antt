@@ -1,6 +1,6 @@
 -- Parts of the tree and of `Neat`, for the code's steps.
 use Rattle.std.specs.Prelude.{ℕ, Bool, false, List, [], ◌∷◌, ◌++◌, Option, codes}
-use Rattle.js_tree.specs.declared.place.Loc.{Loc}
+use Rattle.js_terms.specs.declared.place.Loc.{Loc}
 use Rattle.js_tree.specs.Plain.{Param, MakeParam, Declarator, MakeDeclarator, MaybeExpr, none_expr, some_expr, TemplatePart, MakeTemplatePart, TemplateParts}
 use Rattle.js_spelling.specs.Written.{Written}
 use Rattle.js_layout.specs.Tokens.{word, token, first_part, expr_tokens, parts_tokens}

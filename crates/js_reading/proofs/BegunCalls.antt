@@ -4,7 +4,7 @@ use Rattle.std.proofs.Common.{◌≡◌, ℕ, ◌⊎◌, inl, inr, Bool, true, f
 use Rattle.std.specs.Prelude.{nat_le, ◌||◌, ◌==◌}
 use Rattle.std.proofs.lemmas.Bool.{true≢false, and_parts, cond-true, cond-false, eq-eqb, eqb-true}
 use Rattle.std.proofs.lemmas.List.{append_cancel_left}
-use Rattle.js_tree.specs.declared.place.Loc.{Loc}
+use Rattle.js_terms.specs.declared.place.Loc.{Loc}
 use Rattle.js_tree.specs.Plain.{Expr, Exprs}
 use Rattle.js_tree.specs.Plain as tree
 use Rattle.js_text.specs.Token.{Token, Word}

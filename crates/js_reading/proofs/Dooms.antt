@@ -1,7 +1,7 @@
 -- Where the parts of an open production are none that it may have, no run from there ends.
 use Rattle.std.proofs.Common.{◌≡◌, ℕ, ◌⊎◌, inl, inr, Bool, true, false, not, ◌&&◌, List, [], ◌∷◌, ◌++◌, Option, Some, None, if◌then◌else◌, refl, sym, ap, subst, ◌∙◌, append_assoc, append-nil}
 use Rattle.std.specs.Prelude.{nat_le}
-use Rattle.js_tree.specs.declared.place.Loc.{Loc}
+use Rattle.js_terms.specs.declared.place.Loc.{Loc}
 use Rattle.js_tree.specs.Plain.{Expr, no_expr, push_exprs, Stmt, no_stmt, push_stmts}
 use Rattle.js_text.specs.Token.{Token}
 use Rattle.js_reading.specs.Level.{assignment}

@@ -1,6 +1,6 @@
 -- The tokens of a file that is whole begin as many levels as its tree has.
 use Rattle.std.proofs.Common.{◌≡◌, ℕ, ◌<◌, max, Bool, true, false, not, ◌&&◌, List, [], ◌∷◌, ◌++◌, Some, refl, sym, ap, subst, ◌∙◌, arith, append_assoc, append-nil}
-use Rattle.js_tree.specs.declared.place.Loc.{Loc}
+use Rattle.js_terms.specs.declared.place.Loc.{Loc}
 use Rattle.js_tree.specs.Plain.{Stmt, Stmts, no_stmt, more_stmt, File, MakeFile}
 use Rattle.js_tree.specs.Height.{height_stmt, height_stmts, height_file}
 use Rattle.js_text.specs.Token.{Token}

@@ -1,6 +1,6 @@
 -- What is found at a turn, or ahead of a token that is refused, begins a form where it is said.
 use Rattle.std.proofs.Common.{◌≡◌, List, [], ◌∷◌, ◌++◌, Some, refl, ap, ◌∙◌, append_assoc}
-use Rattle.js_tree.specs.declared.place.Loc.{Loc}
+use Rattle.js_terms.specs.declared.place.Loc.{Loc}
 use Rattle.js_text.specs.Token.{Token}
 use Rattle.js_reading.specs.Turns.{Config, Start, run}
 use Rattle.js_reading.specs.Unsupported.{Unsupported}

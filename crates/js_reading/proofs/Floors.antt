@@ -1,7 +1,7 @@
 -- What a place counts never falls, so that no tree which it leads to is lower.
 use Rattle.std.proofs.Common.{◌≡◌, ℕ, ◌+◌, ◌≤◌, max, true, false, ◌&&◌, List, [], ◌∷◌, ◌++◌, Option, Some, None, refl, sym, ap, ◌∙◌, subst, arith, le_trans, le_refl}
 use Rattle.std.specs.Prelude.{nat_le}
-use Rattle.js_tree.specs.declared.place.Loc.{Loc}
+use Rattle.js_terms.specs.declared.place.Loc.{Loc}
 use Rattle.js_tree.specs.Plain.{Expr, Exprs, no_expr, push_exprs, Stmt, Stmts, no_stmt, more_stmt, push_stmts, File, MakeFile}
 use Rattle.js_tree.specs.Height.{height_expr, height_exprs, height_stmt, height_stmts, height_file}
 use Rattle.js_text.specs.Token.{Token, End}

@@ -2,7 +2,7 @@
 use Rattle.std.proofs.Common.{◌≡◌, ℕ, ◌≤◌, Bool, true, false, not, ◌&&◌, List, [], ◌∷◌, ◌++◌, Option, Some, None, if◌then◌else◌, refl, sym, ap, subst, ◌∙◌, arith}
 use Rattle.std.specs.Prelude.{nat_le, ◌||◌, ◌==◌}
 use Rattle.std.proofs.lemmas.Bool.{true≢false, and_parts, le-leb, leb-true, eqb-true}
-use Rattle.js_tree.specs.declared.place.Loc.{Loc}
+use Rattle.js_terms.specs.declared.place.Loc.{Loc}
 use Rattle.js_tree.specs.Plain.{Expr}
 use Rattle.js_text.specs.Token.{Token, Kind}
 use Rattle.js_text.specs.Token as T

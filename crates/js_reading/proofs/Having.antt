@@ -1,6 +1,6 @@
 -- A part that stands in frames before a token: what has been read goes on to stand for a place.
 use Rattle.std.proofs.Common.{◌≡◌, ℕ, ◌≤◌, max, arith, Bool, false, List, [], ◌∷◌, ◌++◌, Some, if◌then◌else◌, refl, sym, ap, subst, ◌∙◌, append_assoc}
-use Rattle.js_tree.specs.declared.place.Loc.{Loc}
+use Rattle.js_terms.specs.declared.place.Loc.{Loc}
 use Rattle.js_tree.specs.Plain.{Expr, Exprs, no_expr, more_expr, push_exprs, Stmt, push_stmts}
 use Rattle.js_tree.specs.Height.{height_expr, height_exprs}
 use Rattle.js_text.specs.Token.{Token, Kind, End}

@@ -2,10 +2,10 @@
 use Rattle.std.proofs.Common.{◌≡◌, ℕ, ◌≤◌, Bool, true, false, List, [], ◌∷◌, Option, Some, None, if◌then◌else◌, refl, sym, subst, arith}
 use Rattle.std.specs.Prelude.{nat_le, ◌||◌}
 use Rattle.std.proofs.lemmas.Bool.{true≢false}
-use Rattle.js_tree.specs.declared.place.Loc.{Loc}
-use Rattle.js_tree.specs.declared.operators.BinaryOperator.{BinaryOperator}
-use Rattle.js_tree.specs.declared.operators.BinaryOperator.TheVariants as b
-use Rattle.js_tree.specs.declared.operators.LogicalOperator.TheVariants as logic
+use Rattle.js_terms.specs.declared.place.Loc.{Loc}
+use Rattle.js_terms.specs.declared.operators.BinaryOperator.{BinaryOperator}
+use Rattle.js_terms.specs.declared.operators.BinaryOperator.TheVariants as b
+use Rattle.js_terms.specs.declared.operators.LogicalOperator.TheVariants as logic
 use Rattle.js_tree.specs.Plain.{Expr, Exprs, no_expr, more_expr}
 use Rattle.js_tree.specs.Plain as tree
 use Rattle.js_text.specs.Token.{Token}

@@ -3,7 +3,7 @@ use Rattle.std.proofs.Common.{◌≡◌, ℕ, ◌≤◌, Bool, true, false, List
 use Rattle.std.specs.Prelude.{nat_le}
 use Rattle.std.specs.Option.{option_or}
 use Rattle.std.proofs.lemmas.Bool.{true≢false, le-leb, cond-true, cond-false}
-use Rattle.js_tree.specs.declared.place.Loc.{Loc}
+use Rattle.js_terms.specs.declared.place.Loc.{Loc}
 use Rattle.js_tree.specs.Plain.{Expr, Exprs, no_expr, more_expr, push_exprs}
 use Rattle.js_tree.specs.Plain as tree
 use Rattle.js_text.specs.Token.{Token}

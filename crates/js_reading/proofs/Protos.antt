@@ -1,7 +1,7 @@
 -- A property with the key `__proto__` and a value: no object is made of parts with it.
 use Rattle.std.proofs.Common.{◌≡◌, ℕ, zero, suc, Bool, true, false, List, [], ◌∷◌, ◌++◌, Option, Some, None, if◌then◌else◌, refl, sym, ap, subst, ◌∙◌}
 use Rattle.std.proofs.lemmas.Bool.{cond-true}
-use Rattle.js_tree.specs.declared.place.Loc.{Loc}
+use Rattle.js_terms.specs.declared.place.Loc.{Loc}
 use Rattle.js_tree.specs.Plain.{Expr, Stmts}
 use Rattle.js_tree.specs.Plain as tree
 use Rattle.js_reading.specs.Kinds.{is_keyword}

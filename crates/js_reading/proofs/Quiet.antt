@@ -8,8 +8,8 @@ use Rattle.js_reading.specs.Productions.{slots, joins, begins_with, after_first}
 use Rattle.js_reading.proofs.Shapes.{find_all, join_found}
 use Rattle.std.specs.Prelude.{is_some, nat_le, ◌||◌}
 use Rattle.std.proofs.lemmas.Bool.{true≢false, and_parts}
-use Rattle.js_tree.specs.declared.place.Loc.{Loc}
-use Rattle.js_tree.specs.declared.operators.LogicalOperator.TheVariants as logic
+use Rattle.js_terms.specs.declared.place.Loc.{Loc}
+use Rattle.js_terms.specs.declared.operators.LogicalOperator.TheVariants as logic
 use Rattle.js_tree.specs.Plain.{Expr, Exprs, no_expr, more_expr, Stmt}
 use Rattle.js_tree.specs.Plain as tree
 use Rattle.js_text.specs.Token.{Token, Kind, Word, End}

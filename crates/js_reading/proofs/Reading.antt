@@ -2,8 +2,8 @@
 use Rattle.std.proofs.Common.{◌≡◌, ℕ, ◌≤◌, Bool, true, false, not, ◌&&◌, List, [], ◌∷◌, ◌++◌, Option, Some, None, codes, if◌then◌else◌, inl, inr, ◌⊎◌, ◌≢◌, refl, sym, ap, subst, ◌∙◌, arith, le_trans, append_assoc, append-nil}
 use Rattle.std.specs.Prelude.{◌==◌, nat_le, ◌||◌}
 use Rattle.std.proofs.lemmas.Bool.{le-leb, cond-true, cond-false, true≢false, and_parts, leb-true, eqb-true}
-use Rattle.js_tree.specs.declared.place.Loc.{Loc}
-use Rattle.js_tree.specs.declared.operators.BinaryOperator.TheVariants as b
+use Rattle.js_terms.specs.declared.place.Loc.{Loc}
+use Rattle.js_terms.specs.declared.operators.BinaryOperator.TheVariants as b
 use Rattle.js_tree.specs.Plain.{Expr, Exprs, no_expr, push_exprs, Stmt, Stmts, no_stmt, push_stmts, File, MakeFile}
 use Rattle.js_tree.specs.Plain as tree
 use Rattle.js_text.specs.Token.{Token, Kind, Word, End}

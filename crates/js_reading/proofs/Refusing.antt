@@ -2,7 +2,7 @@
 use Rattle.std.proofs.Common.{◌≡◌, inl, append_assoc, append-nil, ℕ, ◌≤◌, Bool, true, false, not, ◌&&◌, List, [], ◌∷◌, ◌++◌, Option, Some, None, codes, refl, sym, ap, subst, ◌∙◌, arith}
 use Rattle.std.specs.Prelude.{nat_le, is_some, ◌||◌}
 use Rattle.std.proofs.lemmas.Bool.{true≢false, and_parts, le-leb}
-use Rattle.js_tree.specs.declared.place.Loc.{Loc}
+use Rattle.js_terms.specs.declared.place.Loc.{Loc}
 use Rattle.js_tree.specs.Plain.{Expr, NameKey, StringKey, PropertyKey}
 use Rattle.js_text.specs.Token.{Token, Kind, Word}
 use Rattle.js_text.specs.Token as T

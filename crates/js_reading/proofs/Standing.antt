@@ -1,6 +1,6 @@
 -- What an open production of the whole language stands for: whatever completes its slots completes it.
 use Rattle.std.proofs.Common.{◌≡◌, ℕ, ◌+◌, max, Bool, true, false, List, [], ◌∷◌, ◌++◌, Some, refl, sym, ap, subst, ◌∙◌, arith, append_assoc, append-nil}
-use Rattle.js_tree.specs.declared.place.Loc.{Loc}
+use Rattle.js_terms.specs.declared.place.Loc.{Loc}
 use Rattle.js_tree.specs.Plain.{Expr, Exprs, no_expr, more_expr, push_exprs, Stmt, Stmts, no_stmt, more_stmt, push_stmts}
 use Rattle.js_tree.specs.Height.{height_expr, height_exprs}
 use Rattle.js_reading.proofs.Makings.{is_first}

@@ -1,8 +1,8 @@
 -- What is counted in a file as if it had no hints: all that hints leave of it is among this.
 use Rattle.std.specs.Prelude.{Bool, true, false, List, [], ◌∷◌, ◌++◌, Option, Some, None}
-use Rattle.js_tree.specs.declared.construct.BranchKind.TheVariants as branch_kind
-use Rattle.js_tree.specs.declared.construct.Construct.{Construct}
-use Rattle.js_tree.specs.declared.place.Loc.{Loc}
+use Rattle.js_terms.specs.declared.construct.BranchKind.TheVariants as branch_kind
+use Rattle.js_terms.specs.declared.construct.Construct.{Construct}
+use Rattle.js_terms.specs.declared.place.Loc.{Loc}
 use Rattle.js_tree.specs.Places.{bare_place, stmt_place, stmt_if_place, case_place, body_place, concise_place}
 use Rattle.js_tree.specs.Plain.{Expr, FunctionExpression, ArrowFunction, Conditional, Logical, Parenthesized, Entered}
 use Rattle.js_tree.specs.Plain.{Stmt, Directive, Block, VariableDeclaration, Empty, If, Switch, FunctionDeclaration}

@@ -12,7 +12,7 @@ use Rattle.js_reading.specs.Sentences.{continues}
 use Rattle.js_reading.specs.Slots.{Level, WithoutIn}
 use Rattle.js_reading.specs.Level.{any}
 use Rattle.js_tree.specs.Plain as tree
-use Rattle.js_tree.specs.declared.place.Loc.{Loc}
+use Rattle.js_terms.specs.declared.place.Loc.{Loc}
 use Rattle.js_reading.proofs.Worked.{token, tokens, reads}
 
 -- ---- declarations (14.2, 14.3, 15.2)

@@ -1,6 +1,6 @@
 -- What the next token chooses, for each choice of the table: a rule on that token alone.
 use Rattle.std.specs.Prelude.{ℕ, Bool, true, false, not, ◌&&◌, ◌||◌, List, [], ◌∷◌, codes, if◌then◌else◌, nat_le}
-use Rattle.js_tree.specs.declared.operators.VariableKind.TheVariants as variable
+use Rattle.js_terms.specs.declared.operators.VariableKind.TheVariants as variable
 use Rattle.js_text.specs.Token.{Token, Kind, TemplateMiddle, End}
 use Rattle.js_text.specs.declared.punctuator.Punctuator.TheVariants as P
 use Rattle.js_reading.specs.Level.{any, assignment}

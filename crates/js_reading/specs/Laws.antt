@@ -1,7 +1,7 @@
 -- What is proved of the whole language: of `Sentences`, `Turns` and `Open`.
 use Rattle.std.specs.Prelude.{◌≡◌, ℕ, true, false, ◌≤◌, ◌<◌, ◌^◌, length, List, [], ◌∷◌, ◌++◌, Some, None, codes}
 use Rattle.std.specs.Str.{chars}
-use Rattle.js_tree.specs.declared.place.Loc.{Loc}
+use Rattle.js_terms.specs.declared.place.Loc.{Loc}
 use Rattle.js_text.specs.Place.{Place}
 use Rattle.js_tree.specs.Plain.{File}
 use Rattle.js_tree.specs.Height.{height_file}

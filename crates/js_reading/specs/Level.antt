@@ -1,9 +1,9 @@
 -- How tightly each form of expression binds (ECMA-262, 13, from the loosest to the tightest).
 use Rattle.std.specs.Prelude.{ℕ, ◌+◌}
-use Rattle.js_tree.specs.declared.operators.BinaryOperator.{BinaryOperator}
-use Rattle.js_tree.specs.declared.operators.BinaryOperator.TheVariants as b
-use Rattle.js_tree.specs.declared.operators.LogicalOperator.{LogicalOperator}
-use Rattle.js_tree.specs.declared.operators.LogicalOperator.TheVariants as l
+use Rattle.js_terms.specs.declared.operators.BinaryOperator.{BinaryOperator}
+use Rattle.js_terms.specs.declared.operators.BinaryOperator.TheVariants as b
+use Rattle.js_terms.specs.declared.operators.LogicalOperator.{LogicalOperator}
+use Rattle.js_terms.specs.declared.operators.LogicalOperator.TheVariants as l
 
 -- the level of a binary operator's expression (13.6 to 13.12)
 abbrev pub binary_level : BinaryOperator → ℕ

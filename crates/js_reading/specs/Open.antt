@@ -1,6 +1,6 @@
 -- Which tokens begin so many levels, each inside the one before, and how many a place of the reader counts, for the whole language.
 use Rattle.std.specs.Prelude.{◌≡◌, ℕ, ◌+◌, ◌≤◌, ◌<◌, max, Bool, true, false, not, ◌&&◌, List, [], ◌∷◌, ◌++◌, Some, None}
-use Rattle.js_tree.specs.declared.place.Loc.{Loc}
+use Rattle.js_terms.specs.declared.place.Loc.{Loc}
 use Rattle.js_tree.specs.Plain.{Expr, Stmt, Stmts}
 use Rattle.js_tree.specs.Height.{height_expr, height_exprs, height_stmt, height_stmts}
 use Rattle.js_text.specs.Token.{Token, Kind}

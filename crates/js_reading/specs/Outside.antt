@@ -1,7 +1,7 @@
 -- `this` outside every function (ECMA-262, 13.2.1): in an arrow it is what it is around it, and a function or a method has its own, in
 -- its parameters and its body.
 use Rattle.std.specs.Prelude.{Bool, true, false, List, [], ◌∷◌, Option, Some, None}
-use Rattle.js_tree.specs.declared.place.Loc.{Loc}
+use Rattle.js_terms.specs.declared.place.Loc.{Loc}
 use Rattle.js_tree.specs.Plain.{This, Stmts}
 use Rattle.js_walk.specs.Part.{Part, AnExpr, AFunction}
 use Rattle.js_walk.specs.Walk.{within_stmts}

@@ -2,20 +2,20 @@
 use Rattle.std.specs.Prelude.{ℕ, zero, Bool, true, false, ◌&&◌, List, [], ◌∷◌, ◌++◌, Option, Some, None, codes, if◌then◌else◌, nat_le, is_some}
 use Rattle.std.specs.Str.{bytes_eq, chars}
 use Rattle.std.specs.Prelude.{encode_utf8_all}
-use Rattle.js_tree.specs.declared.place.Loc.{Loc}
-use Rattle.js_tree.specs.declared.words.Spelled.{Spelled}
-use Rattle.js_tree.specs.declared.operators.BinaryOperator.{BinaryOperator}
-use Rattle.js_tree.specs.declared.operators.BinaryOperator.TheVariants as b
-use Rattle.js_tree.specs.declared.operators.LogicalOperator.{LogicalOperator}
-use Rattle.js_tree.specs.declared.operators.LogicalOperator.TheVariants as logic
-use Rattle.js_tree.specs.declared.operators.AssignmentOperator.{AssignmentOperator}
-use Rattle.js_tree.specs.declared.operators.AssignmentOperator.TheVariants as assign
-use Rattle.js_tree.specs.declared.operators.VariableKind.{VariableKind}
-use Rattle.js_tree.specs.declared.operators.VariableKind.TheVariants as variable
-use Rattle.js_tree.specs.declared.operators.UpdateOperator.{UpdateOperator}
-use Rattle.js_tree.specs.declared.operators.UpdateOperator.TheVariants as up
-use Rattle.js_tree.specs.declared.operators.UnaryOperator.{UnaryOperator}
-use Rattle.js_tree.specs.declared.operators.UnaryOperator.TheVariants as u
+use Rattle.js_terms.specs.declared.place.Loc.{Loc}
+use Rattle.js_terms.specs.declared.words.Spelled.{Spelled}
+use Rattle.js_terms.specs.declared.operators.BinaryOperator.{BinaryOperator}
+use Rattle.js_terms.specs.declared.operators.BinaryOperator.TheVariants as b
+use Rattle.js_terms.specs.declared.operators.LogicalOperator.{LogicalOperator}
+use Rattle.js_terms.specs.declared.operators.LogicalOperator.TheVariants as logic
+use Rattle.js_terms.specs.declared.operators.AssignmentOperator.{AssignmentOperator}
+use Rattle.js_terms.specs.declared.operators.AssignmentOperator.TheVariants as assign
+use Rattle.js_terms.specs.declared.operators.VariableKind.{VariableKind}
+use Rattle.js_terms.specs.declared.operators.VariableKind.TheVariants as variable
+use Rattle.js_terms.specs.declared.operators.UpdateOperator.{UpdateOperator}
+use Rattle.js_terms.specs.declared.operators.UpdateOperator.TheVariants as up
+use Rattle.js_terms.specs.declared.operators.UnaryOperator.{UnaryOperator}
+use Rattle.js_terms.specs.declared.operators.UnaryOperator.TheVariants as u
 use Rattle.js_tree.specs.Plain.{Expr}
 use Rattle.js_tree.specs.Plain as tree
 use Rattle.js_text.specs.Token.{Token, Kind, Word, EscapedWord, End}

@@ -1,9 +1,9 @@
 -- What stands in a production, for the whole language: slots, and what each leaves behind it. A choice among them is made
 -- by the next token alone.
 use Rattle.std.specs.Prelude.{ℕ, Bool, List}
-use Rattle.js_tree.specs.declared.place.Loc.{Loc}
-use Rattle.js_tree.specs.declared.operators.VariableKind.{VariableKind}
-use Rattle.js_tree.specs.declared.words.Spelled.{Spelled}
+use Rattle.js_terms.specs.declared.place.Loc.{Loc}
+use Rattle.js_terms.specs.declared.operators.VariableKind.{VariableKind}
+use Rattle.js_terms.specs.declared.words.Spelled.{Spelled}
 use Rattle.js_tree.specs.Plain.{Expr, Exprs, Stmt, Stmts, PropertyKey}
 use Rattle.js_text.specs.Token.{Kind}
 use Rattle.js_text.specs.declared.punctuator.Punctuator.{Punctuator}

@@ -1,6 +1,6 @@
 -- From which token to which a part stands, and which token is the next.
 use Rattle.std.specs.Prelude.{List, [], ◌∷◌}
-use Rattle.js_tree.specs.declared.place.Loc.{Loc}
+use Rattle.js_terms.specs.declared.place.Loc.{Loc}
 use Rattle.js_text.specs.Token.{Token}
 
 -- from the start of one part to the end of another

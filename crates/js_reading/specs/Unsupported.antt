@@ -1,6 +1,6 @@
 -- The forms of the standard that the language leaves out, and what begins each: a token at a place, and those after it.
 use Rattle.std.specs.Prelude.{◌≡◌, ℕ, nat_le, Bool, true, false, ◌||◌, List, [], ◌∷◌, ◌++◌, Option, Some, codes}
-use Rattle.js_tree.specs.declared.place.Loc.{Loc}
+use Rattle.js_terms.specs.declared.place.Loc.{Loc}
 use Rattle.js_tree.specs.Plain.{Expr, Exprs, more_expr}
 use Rattle.js_tree.specs.Plain as tree
 use Rattle.js_text.specs.Token.{Token, Kind, BigInt}

@@ -12,7 +12,7 @@ ghost use Rattle.js_realm.specs.private.Opening.{row_seen, error_seen, named_see
 use crate::places::{global_environment, object_at};
 use items::Memory;
 use js_heap::{Env, Flags, Heap, ObjectKind};
-use js_tree::Name;
+use js_terms::Name;
 use js_value::{
     BUILT_INS, BuiltIn, CONSTRUCTORS, Constructor, ERRORS, ErrorKind, FUNCTIONS, NAMED_OBJECTS,
     Object, PLACES, PROTOTYPES, Place, Primitive, Value, ascii,

@@ -2,7 +2,7 @@
 use Rattle.std.proofs.Common.{◌≡◌, ◌∙◌, refl, ap, ℕ, Bool, true, false, not, ◌||◌, ◌&&◌, List, [], ◌∷◌, ◌++◌, None}
 use Rattle.std.specs.Str.{bytes_eq}
 use Rattle.js_tree.specs.Plain.{File}
-use Rattle.js_tree.specs.declared.place.Pos.{Pos}
+use Rattle.js_terms.specs.declared.place.Pos.{Pos}
 use Rattle.js_walk.specs.Walk.{walk_file}
 use Rattle.js_scopes.specs.Checks.{faults, first_fault, reserved_among, reserved_by, reserved_if}
 use Rattle.js_scopes.specs.Mentions.{mentions_file, nothing_told}

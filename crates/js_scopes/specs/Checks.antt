@@ -1,7 +1,7 @@
 -- The early rules that a file breaks, and the first of them.
 use Rattle.std.specs.Prelude.{Bool, List, [], ◌∷◌, ◌++◌, Option, if◌then◌else◌}
 use Rattle.js_tree.specs.Plain.{File}
-use Rattle.js_tree.specs.declared.place.Pos.{Pos}
+use Rattle.js_terms.specs.declared.place.Pos.{Pos}
 use Rattle.js_walk.specs.Walk.{walk_file}
 use Rattle.js_scopes.specs.Mentions.{mentions_file, nothing_told}
 use Rattle.js_scopes.specs.Order.{first}

@@ -1,8 +1,8 @@
 -- The names that a scope declares, in the order of the text (ECMA-262, 8.2: BoundNames, LexicallyDeclaredNames, VarDeclaredNames).
 use Rattle.std.specs.Prelude.{ℕ, Bool, true, false, List, [], ◌∷◌, ◌++◌}
-use Rattle.js_tree.specs.declared.operators.VariableKind.{VariableKind}
-use Rattle.js_tree.specs.declared.operators.VariableKind.TheVariants as variable
-use Rattle.js_tree.specs.declared.place.Pos.{Pos}
+use Rattle.js_terms.specs.declared.operators.VariableKind.{VariableKind}
+use Rattle.js_terms.specs.declared.operators.VariableKind.TheVariants as variable
+use Rattle.js_terms.specs.declared.place.Pos.{Pos}
 use Rattle.js_tree.specs.Plain.{Stmt, Block, VariableDeclaration, If, DoWhile, While, For, ForIn, ForOf, Switch, Labelled, TryCatch, TryFinally, TryCatchFinally, FunctionDeclaration, EnteredStmt, Stmts, no_stmt, more_stmt, MaybeStmt, none_stmt, some_stmt, entered_none}
 use Rattle.js_tree.specs.Plain.{ForInit, NoInit, InitDeclaration, InitExpression, ForTarget, TargetDeclaration, TargetExpression, Declarators, no_declarator, more_declarator, Declarator, MakeDeclarator}
 use Rattle.js_tree.specs.Plain.{Pattern, BindingIdentifier, MaybePattern, none_pattern, some_pattern, Catch, MakeCatch, Case, MakeCase, EnteredCase, Cases, no_case, more_case, Params, no_param, more_param, Param, MakeParam}

@@ -3,8 +3,8 @@
 use Rattle.std.specs.Prelude.{ℕ, Bool, true, false, ◌&&◌, List, [], ◌∷◌, ◌++◌, Option, None, Some, if◌then◌else◌}
 use Rattle.std.specs.List.{list_any}
 use Rattle.std.specs.Str.{bytes_eq}
-use Rattle.js_tree.specs.declared.place.Loc.{Loc}
-use Rattle.js_tree.specs.declared.words.Identifier.{Identifier}
+use Rattle.js_terms.specs.declared.place.Loc.{Loc}
+use Rattle.js_terms.specs.declared.words.Identifier.{Identifier}
 use Rattle.js_tree.specs.Plain.{Stmt, Block, If, DoWhile, While, For, ForIn, ForOf, Continue, Break, Switch, Labelled, TryCatch, TryFinally, TryCatchFinally, EnteredStmt, Stmts, no_stmt, more_stmt, MaybeStmt, none_stmt, some_stmt, entered_none, Catch, MakeCatch, Case, MakeCase, EnteredCase, Cases, no_case, more_case}
 use Rattle.js_scopes.specs.declared.fault.ScopeFault.{ScopeFault}
 use Rattle.js_scopes.specs.declared.fault.ScopeFaultKind.{ScopeFaultKind}

@@ -1,9 +1,9 @@
 -- The names that a file writes and the files that it asks for, a node's own before those in it, and from left to right.
 use Rattle.std.specs.Prelude.{ℕ, Bool, false, List, [], ◌∷◌, Option, Some, None, if◌then◌else◌, codes}
 use Rattle.std.specs.Str.{bytes_eq}
-use Rattle.js_tree.specs.declared.place.Loc.{Loc}
-use Rattle.js_tree.specs.declared.place.Pos.{Pos}
-use Rattle.js_tree.specs.declared.words.Identifier.{Identifier}
+use Rattle.js_terms.specs.declared.place.Loc.{Loc}
+use Rattle.js_terms.specs.declared.place.Pos.{Pos}
+use Rattle.js_terms.specs.declared.words.Identifier.{Identifier}
 use Rattle.js_scopes.specs.declared.mention.Mention.{Mention}
 use Rattle.js_scopes.specs.declared.mention.Mention.TheVariants as mention
 use Rattle.js_tree.specs.Plain.{Expr, IdentifierReference, StringLiteral, FunctionExpression, NamedMember, Call}

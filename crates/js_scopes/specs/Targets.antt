@@ -1,7 +1,7 @@
 -- What `delete` may not be of: a bare name, parentheses notwithstanding (ECMA-262, 13.5.1.1).
 use Rattle.std.specs.Prelude.{List, [], ◌∷◌}
-use Rattle.js_tree.specs.declared.operators.UnaryOperator.{UnaryOperator}
-use Rattle.js_tree.specs.declared.operators.UnaryOperator.TheVariants as unary
+use Rattle.js_terms.specs.declared.operators.UnaryOperator.{UnaryOperator}
+use Rattle.js_terms.specs.declared.operators.UnaryOperator.TheVariants as unary
 use Rattle.js_tree.specs.Plain.{Expr, IdentifierReference, Parenthesized, Unary}
 use Rattle.js_scopes.specs.declared.fault.ScopeFault.{ScopeFault}
 use Rattle.js_scopes.specs.declared.fault.ScopeFaultKind.TheVariants as kind

@@ -1,6 +1,6 @@
 -- What a way keeps after text more.
 use Rattle.std.proofs.Common.{◌≡◌, ℕ, List, ◌++◌, Option, sym, subst}
-use Rattle.js_tree.specs.declared.place.Pos.{Pos}
+use Rattle.js_terms.specs.declared.place.Pos.{Pos}
 use Rattle.cov_base.specs.Sink.{TakesPrefix}
 use Rattle.cov_base.specs.Pieces.{Moves, held_of}
 use Rattle.cov_base.specs.declared.pieces.Pieces.{Pieces}

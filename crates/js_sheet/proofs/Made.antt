@@ -1,6 +1,6 @@
 -- Tokens that are put one after another make the text and the marks of the layout.
 use Rattle.std.proofs.Common.{◌≡◌, ◌∙◌, ℕ, ◌+◌, ◌≤◌, Bool, true, false, List, [], ◌∷◌, ◌++◌, length, Option, None, refl, sym, ap, subst, arith, append_assoc, append-nil, length-append}
-use Rattle.js_tree.specs.declared.place.Pos.{Pos}
+use Rattle.js_terms.specs.declared.place.Pos.{Pos}
 use Rattle.js_text.specs.Token.{spelling}
 use Rattle.js_spelling.specs.Written.{Written, Origin, Begins, Within, Inserted, letters, between, after_last, text_from, text_of}
 use Rattle.js_layout.specs.Layout.{marked, is_inserted, marks_from, marks_of}

@@ -5,7 +5,7 @@ use Rattle.std.specs.Str.{chars}
 use Rattle.std.proofs.Math.Seq.{drop-cons}
 use Rattle.std.specs.Char.{len_utf8}
 use Rattle.std.proofs.lemmas.Bool.{leb-true}
-use Rattle.js_tree.specs.declared.place.Pos.{Pos}
+use Rattle.js_terms.specs.declared.place.Pos.{Pos}
 use Rattle.js_text.specs.Place.{Place, characters_before, place_at}
 use Rattle.js_text.specs.Position.{position_of}
 use Rattle.js_text.proofs.Place.{length-encodes-cons}

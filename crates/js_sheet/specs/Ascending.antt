@@ -1,6 +1,6 @@
 -- Marks whose places ascend.
 use Rattle.std.specs.Prelude.{ℕ, ◌≤◌, List, [], ◌∷◌, Option}
-use Rattle.js_tree.specs.declared.place.Pos.{Pos}
+use Rattle.js_terms.specs.declared.place.Pos.{Pos}
 
 -- none stands before this many bytes, nor before the mark that it follows
 abbrev pub Ascending : ℕ → List (ℕ × Option Pos) → Type 0

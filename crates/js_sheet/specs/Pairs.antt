@@ -1,6 +1,6 @@
 -- An expression's own pair of parentheses.
 use Rattle.std.specs.Prelude.{Option, None}
-use Rattle.js_tree.specs.declared.place.Loc.{Loc}
+use Rattle.js_terms.specs.declared.place.Loc.{Loc}
 use Rattle.js_tree.specs.Plain.{Expr, Parenthesized}
 
 -- the place of an expression's own pair

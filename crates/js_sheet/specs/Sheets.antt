@@ -1,8 +1,8 @@
 -- What is written so far, as the tokens that follow need it: tokens put one after another make the text and the marks of the layout.
 use Rattle.std.specs.Str.{chars}
 use Rattle.std.specs.Prelude.{ℕ, Bool, true, false, List, [], ◌∷◌, ◌++◌, length, Option, Some, None, if◌then◌else◌}
-use Rattle.js_tree.specs.declared.place.Pos.{Pos}
-use Rattle.js_tree.specs.declared.place.Loc.{Loc}
+use Rattle.js_terms.specs.declared.place.Pos.{Pos}
+use Rattle.js_terms.specs.declared.place.Loc.{Loc}
 use Rattle.js_text.specs.Token.{Kind, Numeral, BigInt, RegularExpression, spelling}
 use Rattle.js_spelling.specs.Written.{Written, Origin, Begins, Within, Inserted}
 use Rattle.js_layout.specs.Layout.{marked, is_inserted}

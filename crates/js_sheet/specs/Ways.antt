@@ -1,7 +1,7 @@
 -- Where the text of a sheet goes.
 use Rattle.std.specs.Prelude.{◌≡◌, ℕ, Bool, true, false, List, ◌++◌, length, Option}
 use Rattle.std.specs.String.{string_bytes}
-use Rattle.js_tree.specs.declared.place.Pos.{Pos}
+use Rattle.js_terms.specs.declared.place.Pos.{Pos}
 use Rattle.cov_base.specs.Sink.{TakesPrefix}
 use Rattle.cov_base.specs.Pieces.{Moves, held_of}
 use Rattle.js_sheet.specs.declared.way.Way.{Way}

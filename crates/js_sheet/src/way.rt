@@ -19,7 +19,7 @@ pub enum Way {
 }
 
 impl Way {
-    ghost use Rattle.js_tree.specs.declared.place.Pos.{Pos};
+    ghost use Rattle.js_terms.specs.declared.place.Pos.{Pos};
     ghost use Rattle.js_sheet.specs.Ways.{is_whole, KeepsMore, KeepsMarks, TakesPart, Keeps};
 
     /// Writes text.

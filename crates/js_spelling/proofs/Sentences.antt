@@ -1,7 +1,7 @@
 -- In every sentence each token may stand beside the next.
 use Rattle.std.proofs.Common.{◌≡◌, Bool, true, false, List, [], ◌∷◌, ◌++◌, Some, refl, sym, subst}
 use Rattle.std.proofs.lemmas.Bool.{true≢false, and_parts, or_left}
-use Rattle.js_tree.specs.declared.place.Loc.{Loc}
+use Rattle.js_terms.specs.declared.place.Loc.{Loc}
 use Rattle.js_tree.specs.Plain.{Expr, Exprs, Stmts}
 use Rattle.js_text.specs.Token.{Token, Kind, TemplateMiddle, TemplateTail, End}
 use Rattle.js_text.specs.Token as T

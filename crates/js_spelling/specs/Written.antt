@@ -1,7 +1,7 @@
 -- Tokens that are written, one after the other, and the text that they make.
 use Rattle.std.specs.Prelude.{ℕ, ◌==◌, Bool, true, false, ◌&&◌, ◌||◌, List, [], ◌∷◌, ◌++◌, if◌then◌else◌}
 use Rattle.std.specs.Str.{chars}
-use Rattle.js_tree.specs.declared.place.Pos.{Pos}
+use Rattle.js_terms.specs.declared.place.Pos.{Pos}
 use Rattle.js_text.specs.Character.{continues_identifier}
 use Rattle.js_text.specs.Token.{Kind, Numeral, BigInt, RegularExpression, spelling}
 

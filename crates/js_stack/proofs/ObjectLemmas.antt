@@ -1,7 +1,7 @@
 -- The parts of an object that come to the end of a property are those that an object is made of.
 use Rattle.std.proofs.Common.{◌≡◌, ◌≤◌, ℕ, zero, suc, Bool, true, false, List, [], ◌∷◌, Option, Some, None, is_some, if◌then◌else◌, refl, ap, ◌∙◌, arith}
 use Rattle.std.specs.Prelude.{not}
-use Rattle.js_tree.specs.declared.place.Loc.{Loc}
+use Rattle.js_terms.specs.declared.place.Loc.{Loc}
 use Rattle.js_tree.specs.Plain.{Property, PropertyKey, NameKey, StringKey, NumberKey, ComputedKey, Properties}
 use Rattle.js_tree.specs.Plain as tree
 use Rattle.js_reading.specs.Spans.{through}

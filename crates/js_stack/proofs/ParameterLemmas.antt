@@ -1,6 +1,6 @@
 -- A pattern among the parameters of an arrow is told by the form, the slots that are left and the parts.
 use Rattle.std.proofs.Common.{◌≡◌, Bool, true, false, List, [], ◌∷◌, Option, Some, None, if◌then◌else◌, refl}
-use Rattle.js_tree.specs.declared.place.Loc.{Loc}
+use Rattle.js_terms.specs.declared.place.Loc.{Loc}
 use Rattle.js_text.specs.Token.{Token}
 use Rattle.js_reading.specs.declared.choice.Choice.TheVariants as choice
 use Rattle.js_reading.specs.declared.form.Form.{Form}

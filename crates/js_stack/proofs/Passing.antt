@@ -1,7 +1,7 @@
 -- What is made that is neither an expression nor a statement goes nowhere.
 use Rattle.std.proofs.Common.{◌≡◌, Bool, true, false, List, [], ◌∷◌, Some, None, refl}
 use Rattle.std.proofs.lemmas.Bool.{true≢false}
-use Rattle.js_tree.specs.declared.place.Loc.{Loc}
+use Rattle.js_terms.specs.declared.place.Loc.{Loc}
 use Rattle.js_text.specs.Token.{Token}
 use Rattle.js_reading.specs.Slots.{Piece, AnExpr, AStmt}
 use Rattle.js_reading.specs.Turns.{Frame}

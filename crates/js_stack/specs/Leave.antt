@@ -1,6 +1,6 @@
 -- What becomes of a part in the frame that it stands in, and of a part that has been made.
 use Rattle.std.specs.Prelude.{List, Option}
-use Rattle.js_tree.specs.declared.place.Loc.{Loc}
+use Rattle.js_terms.specs.declared.place.Loc.{Loc}
 use Rattle.js_tree.specs.Tree.{plain_expr, plain_stmt}
 use Rattle.js_text.specs.Token.{Token}
 use Rattle.js_reading.specs.Productions.{join}

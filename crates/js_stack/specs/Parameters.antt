@@ -1,6 +1,6 @@
 -- A pattern among the parameters of an arrow in parentheses, by the parts of the production.
 use Rattle.std.specs.Prelude.{◌&&◌, List, [], ◌∷◌, Option, None, if◌then◌else◌}
-use Rattle.js_tree.specs.declared.place.Loc.{Loc}
+use Rattle.js_terms.specs.declared.place.Loc.{Loc}
 use Rattle.js_text.specs.Token.{Token}
 use Rattle.js_reading.specs.declared.form.Form.{Form}
 use Rattle.js_reading.specs.Slots.{Slot, Piece, TheExprs}

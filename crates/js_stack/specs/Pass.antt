@@ -1,6 +1,6 @@
 -- What one slot's turn says.
 use Rattle.std.specs.Prelude.{◌≡◌, ℕ, List, ◌++◌, if◌then◌else◌, Option, Some, None, Result, Ok, Err, length}
-use Rattle.js_tree.specs.declared.place.Loc.{Loc}
+use Rattle.js_terms.specs.declared.place.Loc.{Loc}
 use Rattle.js_text.specs.Token.{Token}
 use Rattle.js_reading.specs.declared.choice.Choice.{Choice}
 use Rattle.js_reading.specs.declared.form.Form.{Form}

@@ -1,6 +1,6 @@
 -- The machine's frames and places that those of the code are, and what a token's turn answers.
 use Rattle.std.specs.Prelude.{◌≡◌, ◌<◌, ◌+◌, ℕ, List, [], ◌∷◌, Option, Some, None, Result, Ok, Err, length}
-use Rattle.js_tree.specs.declared.place.Loc.{Loc}
+use Rattle.js_terms.specs.declared.place.Loc.{Loc}
 use Rattle.js_tree.specs.Tree.{plain_expr, plain_exprs, plain_stmt, plain_stmts}
 use Rattle.js_text.specs.Token.{Token}
 use Rattle.js_reading.specs.declared.form.Form.{Form}

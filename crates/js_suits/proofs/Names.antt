@@ -4,7 +4,7 @@ use Rattle.std.specs.List.{list_any}
 use Rattle.std.specs.Str.{bytes_eq}
 use Rattle.std.proofs.lemmas.Bool.{or_parts}
 use Rattle.std.proofs.lemmas.Slice.Eq.{bytes_eq-Decides}
-use Rattle.js_tree.specs.declared.place.Pos.{Pos}
+use Rattle.js_terms.specs.declared.place.Pos.{Pos}
 use Rattle.js_scopes.specs.declared.mention.Mention.{Mention}
 use Rattle.js_scopes.specs.declared.mention.Mention.TheVariants as mention
 use Rattle.js_scopes.specs.Reserved.{is_among, is_reserved, strict_words, refused_names, own_name}

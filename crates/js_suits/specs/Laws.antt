@@ -1,16 +1,16 @@
 -- Which programs suit their counters: those of accepted sources, linked with their marks, where each counted file's name is fresh in it.
 use Rattle.std.specs.Prelude.{◌≡◌, ℕ, zero, suc, ◌+◌, ◌<◌, ◌≤◌, nat_lt, nat_le, nat_eq, Bool, true, false, not, ◌&&◌, IsTrue, List, [], ◌∷◌, Option, Some, None, length, slice_get}
 use Rattle.std.specs.List.{list_any}
-use Rattle.js_tree.specs.Mark.{Mark}
+use Rattle.js_terms.specs.Mark.{Mark}
 use Rattle.js_tree.specs.Plain.{File, MakeFile, no_stmt}
 use Rattle.js_tree.specs.Codes.{Code, functions_file}
 use Rattle.js_tree.specs.Unmarked.{unmarked_file}
 use Rattle.js_tree.specs.Entered.{times_placed}
-use Rattle.js_tree.specs.declared.construct.Construct.{Construct}
-use Rattle.js_tree.specs.declared.construct.Construct.TheVariants as construct
-use Rattle.js_tree.specs.declared.construct.ConstructKind.{ConstructKind}
-use Rattle.js_tree.specs.declared.construct.ConstructKind.TheVariants as construct_kind
-use Rattle.js_tree.specs.declared.place.Loc.{Loc}
+use Rattle.js_terms.specs.declared.construct.Construct.{Construct}
+use Rattle.js_terms.specs.declared.construct.Construct.TheVariants as construct
+use Rattle.js_terms.specs.declared.construct.ConstructKind.{ConstructKind}
+use Rattle.js_terms.specs.declared.construct.ConstructKind.TheVariants as construct_kind
+use Rattle.js_terms.specs.declared.place.Loc.{Loc}
 use Rattle.js_walk.specs.Constructs.{constructs_file}
 use Rattle.js_reading.specs.Kinds.{is_keyword}
 use Rattle.js_scopes.specs.Mentions.{mentions_file}

@@ -1,6 +1,6 @@
 -- A program with its counters, and which programs suit them.
 use Rattle.std.specs.Prelude.{◌≡◌, ℕ, zero, suc, ◌+◌, ◌<◌, ◌++◌, length, Bool, true, false, List, [], ◌∷◌, Some, slice_get, if◌then◌else◌}
-use Rattle.js_tree.specs.Mark.{Mark}
+use Rattle.js_terms.specs.Mark.{Mark}
 use Rattle.js_tree.specs.Plain.{File, MakeFile, Stmts}
 use Rattle.js_tree.specs.Codes.{Code, functions_expr, functions_stmts, functions_file}
 use Rattle.js_meaning.specs.Program.{Source, Sources}

@@ -1,6 +1,6 @@
 -- The rewriting of counted files, with a setting's counters, and functions that are numbered from a shift on.
 use Rattle.std.specs.Prelude.{ℕ, ◌+◌, Bool, List, None}
-use Rattle.js_tree.specs.Mark.{Mark}
+use Rattle.js_terms.specs.Mark.{Mark}
 use Rattle.js_tree.specs.Codes.{Code}
 use Rattle.js_tree.specs.Plain.{Expr, Stmt, Property, PropertyKey, ConciseBody, ForInit, ForTarget, TemplatePart, Function, FunctionBody, Param, Declarator, Case, Catch, MaybeExpr, MaybeStmt, Exprs, TemplateParts, Properties, Params, Stmts, Declarators, Cases}
 use Rattle.js_tree.specs.Plain as P

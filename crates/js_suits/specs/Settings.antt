@@ -1,6 +1,6 @@
 -- What the counters of a program are, and which pairs of objects and of environments of its two runs stand for each other.
 use Rattle.std.specs.Prelude.{◌≡◌, ◌≢◌, ℕ, Bool, IsTrue, List, Option, codes}
-use Rattle.js_tree.specs.Mark.{Mark}
+use Rattle.js_terms.specs.Mark.{Mark}
 use Rattle.js_tree.specs.Plain.{Expr, Stmts}
 use Rattle.js_value.specs.State.{Heap}
 use Rattle.js_two_runs.specs.Pairs.{Pairs}

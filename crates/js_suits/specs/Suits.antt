@@ -1,7 +1,7 @@
 -- A tree of a home: its names are free there, and its marks are of that home's file and have counters.
 use Rattle.std.specs.Prelude.{◌≡◌, ℕ, ◌+◌, List, [], Option, Some, None, Bool, true, false}
-use Rattle.js_tree.specs.Mark.{Mark}
-use Rattle.js_tree.specs.declared.words.Identifier.{Identifier}
+use Rattle.js_terms.specs.Mark.{Mark}
+use Rattle.js_terms.specs.declared.words.Identifier.{Identifier}
 use Rattle.js_tree.specs.Codes.{Code, Ordinary, OfMethod, Arrow}
 use Rattle.js_tree.specs.Plain.{Expr, IdentifierReference, ArrayLiteral, ObjectLiteral, FunctionExpression, ArrowFunction, TemplateLiteral, Parenthesized, NamedMember, ComputedMember, New, Call, PostfixUpdate, PrefixUpdate, Unary, Binary, Logical, Conditional, Assignment, Comma, Entered}
 use Rattle.js_tree.specs.Plain.{Stmt, Block, VariableDeclaration, Expression, If, DoWhile, While, For, ForIn, ForOf, Return, Switch, Labelled, Throw, TryCatch, TryFinally, TryCatchFinally, FunctionDeclaration, EnteredStmt}

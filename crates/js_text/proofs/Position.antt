@@ -6,7 +6,7 @@ use Rattle.std.specs.Str.{chars}
 use Rattle.std.proofs.lemmas.Bool.{cases_eq, cases_lt, eq-eqb, ne_eqb, lt-ltb, le-ltb}
 use Rattle.std.proofs.lemmas.Str.{encodes-chars, byte_from_char, char_from_byte}
 use Rattle.std.proofs.lemmas.List.Sums.{sum_by_push}
-use Rattle.js_tree.specs.declared.place.Pos.{Pos}
+use Rattle.js_terms.specs.declared.place.Pos.{Pos}
 use Rattle.js_text.specs.Place.{Place, place_at}
 use Rattle.js_text.specs.Position.{begins_with_line_feed, ends_line, lines_ended, line_so_far, utf16_units, saturated, position_of, position}
 use Rattle.js_text.proofs.Place.{place_at-here, place_at-last, place_at-late}

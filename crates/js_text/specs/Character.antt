@@ -2,7 +2,7 @@
 use Rattle.std.specs.Prelude.{ℕ, ◌==◌, Bool, false, ◌||◌, List, [], ◌∷◌}
 use Rattle.std.specs.Char.{is_ascii_digit}
 use Rattle.unicode_ident.specs.Ident.{is_xid_start, is_xid_continue}
-pub use Rattle.js_tree.specs.Blank.{is_white_space}
+pub use Rattle.js_terms.specs.Blank.{is_white_space}
 use Rattle.js_text.specs.Position.{is_line_terminator}
 
 -- white space and line terminators (12.2, 12.3)

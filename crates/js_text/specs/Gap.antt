@@ -1,7 +1,7 @@
 -- What stands before a token: white space, line terminators and comments (ECMA-262, 12.2 to 12.5).
 use Rattle.std.specs.Prelude.{ℕ, zero, suc, ◌-◌, Bool, true, false, ◌&&◌, List, [], ◌∷◌, length, map, Option, Some, None, if◌then◌else◌, encode_utf8_all}
-use Rattle.js_tree.specs.declared.place.Pos.{Pos}
-use Rattle.js_tree.specs.declared.words.Comment.{Comment}
+use Rattle.js_terms.specs.declared.place.Pos.{Pos}
+use Rattle.js_terms.specs.declared.words.Comment.{Comment}
 use Rattle.js_text.specs.Place.{Place}
 use Rattle.js_text.specs.Character.{is_gap}
 use Rattle.js_text.specs.Comment.{comment_rest, single_line_rest, begins_hashbang, comment_text}

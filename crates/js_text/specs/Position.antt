@@ -1,8 +1,8 @@
 -- The line and the column of a place in a text.
 -- Line terminators: ECMA-262, 12.3. Code units of UTF-16: ECMA-262, 11.1.1.
 use Rattle.std.specs.Prelude.{ℕ, ◌+◌, ◌-◌, ◌^◌, ◌==◌, Bool, false, not, ◌&&◌, List, [], ◌∷◌, ◌++◌, if◌then◌else◌, nat_lt, min, sum_by}
-pub use Rattle.js_tree.specs.Blank.{is_line_terminator}
-use Rattle.js_tree.specs.declared.place.Pos.{Pos}
+pub use Rattle.js_terms.specs.Blank.{is_line_terminator}
+use Rattle.js_terms.specs.declared.place.Pos.{Pos}
 use Rattle.std.specs.Str.{chars}
 use Rattle.js_text.specs.Place.{Place, place_at}
 

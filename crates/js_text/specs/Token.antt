@@ -1,6 +1,6 @@
 -- Tokens (ECMA-262, 12).
 use Rattle.std.specs.Prelude.{ℕ, Bool, List, []}
-use Rattle.js_tree.specs.declared.place.Loc.{Loc}
+use Rattle.js_terms.specs.declared.place.Loc.{Loc}
 use Rattle.js_text.specs.declared.punctuator.Punctuator as P
 use Rattle.js_text.specs.Punctuator.{spelling_of}
 

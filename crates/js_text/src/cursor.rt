@@ -2,7 +2,7 @@ ghost use Rattle.std.specs.Prelude.{◌≡◌, ℕ, List, [], ◌∷◌, ◌++�
 ghost use Rattle.std.specs.Str.{chars, encode_utf8_all, IsCharBoundary};
 ghost use Rattle.js_text.specs.Position as spec;
 
-use js_tree::Pos;
+use js_terms::Pos;
 use std::marker::Model;
 
 /// A place in a text that moves forward by one character at a time and knows its position, so that

@@ -4,7 +4,7 @@ ghost use Rattle.std.specs.Str.Lossy.{utf8_valid_len};
 ghost use Rattle.js_text.specs.Position as spec;
 
 use crate::{Cursor, Limits};
-use js_tree::Pos;
+use js_terms::Pos;
 use std::alloc::Global;
 use std::marker::Model;
 

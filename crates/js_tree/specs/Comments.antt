@@ -3,11 +3,11 @@
 use Rattle.std.specs.Prelude.{ℕ, ◌==◌, Bool, true, false, not, ◌&&◌, ◌||◌, List, [], ◌∷◌, Option, Some, None, codes, if◌then◌else◌}
 use Rattle.std.specs.Char.{is_ascii_alphanumeric}
 use Rattle.std.specs.Str.{chars}
-use Rattle.js_tree.specs.Blank.{is_gap}
+use Rattle.js_terms.specs.Blank.{is_gap}
 use Rattle.js_tree.specs.declared.hint.Hint.{Hint}
 use Rattle.js_tree.specs.declared.hint.Hint.TheVariants as hint
-use Rattle.js_tree.specs.declared.place.Pos.{Pos}
-use Rattle.js_tree.specs.declared.words.Comment.{Comment}
+use Rattle.js_terms.specs.declared.place.Pos.{Pos}
+use Rattle.js_terms.specs.declared.words.Comment.{Comment}
 
 -- `\s*`: what follows white space and line terminators
 abbrev pub skip_gap : List ℕ → List ℕ

@@ -1,8 +1,8 @@
 -- When two marks are the same, and how often one stands in a list.
 use Rattle.std.specs.Prelude.{ℕ, ◌+◌, Bool, true, false, ◌&&◌, List, [], ◌∷◌, nat_eq}
-use Rattle.js_tree.specs.declared.construct.ConstructKind.{ConstructKind}
-use Rattle.js_tree.specs.declared.construct.ConstructKind.TheVariants as construct_kind
-use Rattle.js_tree.specs.Mark.{Mark}
+use Rattle.js_terms.specs.declared.construct.ConstructKind.{ConstructKind}
+use Rattle.js_terms.specs.declared.construct.ConstructKind.TheVariants as construct_kind
+use Rattle.js_terms.specs.Mark.{Mark}
 
 abbrev pub same_kind : ConstructKind → ConstructKind → Bool
 same_kind construct_kind.Statement construct_kind.Statement = true

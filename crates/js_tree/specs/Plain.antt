@@ -1,17 +1,17 @@
 -- The tree as plain data, in ECMA-262's words. Every definition goes by cases over it. A tree as it is read has no marks, and 0 as
 -- the number of each function.
 use Rattle.std.specs.Prelude.{ℕ, Bool, List, Option}
-use Rattle.js_tree.specs.declared.operators.AssignmentOperator.{AssignmentOperator}
-use Rattle.js_tree.specs.declared.operators.BinaryOperator.{BinaryOperator}
-use Rattle.js_tree.specs.declared.operators.LogicalOperator.{LogicalOperator}
-use Rattle.js_tree.specs.declared.operators.UnaryOperator.{UnaryOperator}
-use Rattle.js_tree.specs.declared.operators.UpdateOperator.{UpdateOperator}
-use Rattle.js_tree.specs.declared.operators.VariableKind.{VariableKind}
-use Rattle.js_tree.specs.declared.place.Loc.{Loc}
-use Rattle.js_tree.specs.declared.words.Comment.{Comment}
-use Rattle.js_tree.specs.declared.words.Identifier.{Identifier}
-use Rattle.js_tree.specs.declared.words.Spelled.{Spelled}
-use Rattle.js_tree.specs.Mark.{Mark}
+use Rattle.js_terms.specs.declared.operators.AssignmentOperator.{AssignmentOperator}
+use Rattle.js_terms.specs.declared.operators.BinaryOperator.{BinaryOperator}
+use Rattle.js_terms.specs.declared.operators.LogicalOperator.{LogicalOperator}
+use Rattle.js_terms.specs.declared.operators.UnaryOperator.{UnaryOperator}
+use Rattle.js_terms.specs.declared.operators.UpdateOperator.{UpdateOperator}
+use Rattle.js_terms.specs.declared.operators.VariableKind.{VariableKind}
+use Rattle.js_terms.specs.declared.place.Loc.{Loc}
+use Rattle.js_terms.specs.declared.words.Comment.{Comment}
+use Rattle.js_terms.specs.declared.words.Identifier.{Identifier}
+use Rattle.js_terms.specs.declared.words.Spelled.{Spelled}
+use Rattle.js_terms.specs.Mark.{Mark}
 
 mutual
   -- an expression (13)

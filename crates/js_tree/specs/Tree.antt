@@ -1,7 +1,7 @@
 -- The plain tree that a tree is.
 use Rattle.std.specs.Prelude.{List, [], ◌∷◌, Option, Some, None}
 use Rattle.js_tree.specs.Plain as P
-use Rattle.js_tree.specs.declared.place.Loc.{Loc}
+use Rattle.js_terms.specs.declared.place.Loc.{Loc}
 use Rattle.js_tree.specs.declared.tree.Case.{Case}
 use Rattle.js_tree.specs.declared.tree.Catch.{Catch}
 use Rattle.js_tree.specs.declared.tree.ConciseBody.{ConciseBody}

@@ -2,10 +2,10 @@
 use Rattle.std.proofs.Common.{◌≡◌, ℕ, List, Bool, true, false, cond, ℤ, pos, Option, Some, None, option_and_then, refl, ap, subst}
 use Rattle.std.specs.declared.cmp.Ordering.{Ordering}
 use Rattle.std.specs.Ordering.{is_lt, is_gt, is_le, is_ge}
-use Rattle.js_tree.specs.declared.operators.BinaryOperator.{BinaryOperator}
-use Rattle.js_tree.specs.declared.operators.BinaryOperator.TheVariants.{Exponentiate, Multiply, Divide, Remainder, Add, Subtract, LeftShift, SignedRightShift, UnsignedRightShift, LessThan, GreaterThan, LessThanOrEqual, GreaterThanOrEqual, InstanceOf, In, Equal, NotEqual, StrictEqual, StrictNotEqual, BitwiseAnd, BitwiseXor, BitwiseOr}
-use Rattle.js_tree.specs.declared.operators.UnaryOperator.{UnaryOperator}
-use Rattle.js_tree.specs.declared.operators.UnaryOperator.TheVariants as U
+use Rattle.js_terms.specs.declared.operators.BinaryOperator.{BinaryOperator}
+use Rattle.js_terms.specs.declared.operators.BinaryOperator.TheVariants.{Exponentiate, Multiply, Divide, Remainder, Add, Subtract, LeftShift, SignedRightShift, UnsignedRightShift, LessThan, GreaterThan, LessThanOrEqual, GreaterThanOrEqual, InstanceOf, In, Equal, NotEqual, StrictEqual, StrictNotEqual, BitwiseAnd, BitwiseXor, BitwiseOr}
+use Rattle.js_terms.specs.declared.operators.UnaryOperator.{UnaryOperator}
+use Rattle.js_terms.specs.declared.operators.UnaryOperator.TheVariants as U
 use Rattle.js_value.specs.declared.value.Primitive.TheVariants as P
 use Rattle.js_value.specs.declared.value.Value.{Value}
 use Rattle.js_value.specs.declared.value.Value.TheVariants as V

@@ -2,8 +2,8 @@
 use Rattle.std.specs.Prelude.{Bool, true, false, not, ◌||◌, ◌++◌, ℤ, Option, Some, None, option_and_then, if◌then◌else◌}
 use Rattle.std.specs.Ordering.{is_lt, is_gt, is_le, is_ge}
 use Rattle.std.specs.declared.cmp.Ordering.{Ordering}
-use Rattle.js_tree.specs.declared.operators.BinaryOperator.{BinaryOperator}
-use Rattle.js_tree.specs.declared.operators.BinaryOperator.TheVariants.{Exponentiate, Multiply, Divide, Remainder, Add, Subtract, LeftShift, SignedRightShift, UnsignedRightShift, LessThan, GreaterThan, LessThanOrEqual, GreaterThanOrEqual, InstanceOf, In, Equal, NotEqual, StrictEqual, StrictNotEqual, BitwiseAnd, BitwiseXor, BitwiseOr}
+use Rattle.js_terms.specs.declared.operators.BinaryOperator.{BinaryOperator}
+use Rattle.js_terms.specs.declared.operators.BinaryOperator.TheVariants.{Exponentiate, Multiply, Divide, Remainder, Add, Subtract, LeftShift, SignedRightShift, UnsignedRightShift, LessThan, GreaterThan, LessThanOrEqual, GreaterThanOrEqual, InstanceOf, In, Equal, NotEqual, StrictEqual, StrictNotEqual, BitwiseAnd, BitwiseXor, BitwiseOr}
 use Rattle.js_value.specs.declared.value.Primitive.{Primitive}
 use Rattle.js_value.specs.declared.value.Primitive.TheVariants as P
 use Rattle.js_value.specs.declared.value.Value.{Value}

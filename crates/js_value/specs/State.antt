@@ -1,7 +1,7 @@
 -- What a running program holds (ECMA-262, 6.1.7, 9.1 and 10): its objects and environments, each numbered in the order in
 -- which they were made, the files that it started, what it wrote, and the constructs that it entered.
 use Rattle.std.specs.Prelude.{ℕ, Bool, List, Option}
-use Rattle.js_tree.specs.Mark.{Mark}
+use Rattle.js_terms.specs.Mark.{Mark}
 use Rattle.js_value.specs.declared.value.Value.{Value}
 
 -- what an object is (10.1 to 10.4). A function of a program has the number of its code and the environment that it closes

@@ -1,9 +1,9 @@
 -- The unary operators that look at a value alone, and the step of `++` and `--` (ECMA-262, 13.4 and 13.5).
 use Rattle.std.specs.Prelude.{ℕ, Bool, true, false, not, List, codes, ℤ, pos, ◌+ℤ◌, ◌-ℤ◌, neg_ℤ, Option, Some, None, option_and_then}
-use Rattle.js_tree.specs.declared.operators.UnaryOperator.{UnaryOperator}
-use Rattle.js_tree.specs.declared.operators.UnaryOperator.TheVariants.{Plus, Minus, BitwiseNot, LogicalNot}
-use Rattle.js_tree.specs.declared.operators.UpdateOperator.{UpdateOperator}
-use Rattle.js_tree.specs.declared.operators.UpdateOperator.TheVariants.{Increment, Decrement}
+use Rattle.js_terms.specs.declared.operators.UnaryOperator.{UnaryOperator}
+use Rattle.js_terms.specs.declared.operators.UnaryOperator.TheVariants.{Plus, Minus, BitwiseNot, LogicalNot}
+use Rattle.js_terms.specs.declared.operators.UpdateOperator.{UpdateOperator}
+use Rattle.js_terms.specs.declared.operators.UpdateOperator.TheVariants.{Increment, Decrement}
 use Rattle.js_value.specs.declared.value.Primitive.{Primitive}
 use Rattle.js_value.specs.declared.value.Primitive.TheVariants as P
 use Rattle.js_value.specs.declared.value.Value.{Value}

@@ -11,7 +11,7 @@ use crate::equality::{loosely_equal, strictly_equal};
 use crate::order::compare_values;
 use crate::value::{Kind, OpFault, Primitive, Str, Value};
 use items::Memory;
-use js_tree::BinaryOperator;
+use js_terms::BinaryOperator;
 use std::alloc::Global;
 
 /// A binary operator of two values (ECMA-262, 13.6 to 13.12), but for `in` and `instanceof`, which look

@@ -9,7 +9,7 @@ use crate::digits::in_range;
 use crate::numbers::ascii;
 use crate::value::{Kind, Primitive, Str, Value};
 use items::Memory;
-use js_tree::{UnaryOperator, UpdateOperator};
+use js_terms::{UnaryOperator, UpdateOperator};
 use std::alloc::Global;
 
 /// A unary operator of a value (ECMA-262, 13.5), but for `delete`, `void` and `typeof`: the primitive

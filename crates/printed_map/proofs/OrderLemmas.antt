@@ -8,7 +8,7 @@ use Rattle.std.specs.Str.{chars}
 use Rattle.std.proofs.lemmas.Bool.{leb-true, leb-false}
 use Rattle.std.proofs.lemmas.List.{append_cancel_left}
 use Rattle.std.proofs.lemmas.List.Sums.{sum_by_push}
-use Rattle.js_tree.specs.declared.place.Pos.{Pos}
+use Rattle.js_terms.specs.declared.place.Pos.{Pos}
 use Rattle.js_text.specs.Place.{Place, characters_before, place_at}
 use Rattle.js_text.specs.Position.{ends_line, lines_ended, line_so_far, utf16_units, saturated, position_of, position}
 use Rattle.js_text.specs.Token.{spelling}

@@ -4,7 +4,7 @@ use Rattle.std.proofs.lemmas.Bool.Decides.{nat_tests}
 use Rattle.std.specs.Option.{option_and_then}
 use Rattle.std.specs.List.{AllByRecursion, filter, last_or}
 use Rattle.std.proofs.lemmas.List.Elements.{filter-append}
-use Rattle.js_tree.specs.declared.place.Pos.{Pos}
+use Rattle.js_terms.specs.declared.place.Pos.{Pos}
 use Rattle.js_layout.specs.declared.mark.Mark.{Mark}
 use Rattle.source_map.specs.declared.place.Segment.{Segment}
 use Rattle.source_map.specs.Trace.{is_by, segment_by, traced_to}

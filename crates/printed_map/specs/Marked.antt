@@ -1,6 +1,6 @@
 -- The source map of a printed tree: a segment for each of its marks.
 use Rattle.std.specs.Prelude.{ℕ, List, [], ◌∷◌, map, Option, Some, None, option_map}
-use Rattle.js_tree.specs.declared.place.Pos.{Pos}
+use Rattle.js_terms.specs.declared.place.Pos.{Pos}
 use Rattle.js_tree.specs.Plain.{File}
 use Rattle.js_layout.specs.declared.mark.Mark.{Mark}
 use Rattle.js_layout.specs.Layout.{marks}

@@ -1,6 +1,6 @@
 -- A worked map: `a; b();` is printed on two lines.
 use Rattle.std.specs.Prelude.{◌≡◌, ℕ, [], Option, Some, codes}
-use Rattle.js_tree.specs.declared.place.Loc.{Loc}
+use Rattle.js_terms.specs.declared.place.Loc.{Loc}
 use Rattle.js_tree.specs.Plain as tree
 use Rattle.js_tree.specs.Plain.{File, MakeFile, no_stmt, more_stmt, no_expr}
 use Rattle.source_map.specs.Write.{mappings_text}

@@ -5,11 +5,11 @@ use Rattle.std.specs.Result.{IfOk}
 use Rattle.js_tree.proofs.Equations.{tree_rules, expr_rolled, exprs_push, template_parts_push, properties_push, params_push, stmts_push, declarators_push, cases_push, expr_assignment, expr_binary, expr_call, expr_comma, expr_computed_member, expr_logical, expr_new, stmt_do_while, stmt_for, stmt_for_in, stmt_for_of, stmt_switch, stmt_try_catch, stmt_try_catch_finally, stmt_try_finally, stmt_while, concise_body_expression_body, declarator_made, declarator_rolled, expr_conditional, expr_if_some, param_made, param_rolled, property_made, property_method, property_rolled, stmt_if, stmt_labelled, template_part_made, template_part_rolled, expr_arrow_function}
 use Rattle.js_tree.specs.Hints.{heed, Heed, heed_arm}
 use Rattle.js_tree.specs.Linked.{function_place}
-use Rattle.js_tree.specs.Mark.{Mark}
+use Rattle.js_terms.specs.Mark.{Mark}
 use Rattle.js_tree.specs.Places.{stmt_place, bare_place, body_place, expr_place, concise_place}
 use Rattle.js_tree.specs.Plain as tree
 use Rattle.js_tree.specs.Tree.{plain_expr, plain_exprs, plain_template_part, plain_template_parts, plain_property, plain_properties, plain_param, plain_params, plain_stmt, plain_stmts, plain_declarator, plain_declarators, plain_case, plain_cases, plain_expr_node, plain_expr_if, plain_stmt_node, plain_for_init, plain_for_target, plain_catch, plain_concise_body, plain_function, plain_pattern, plain_property_key, plain_property_node, plain_stmt_if}
-use Rattle.js_tree.specs.declared.construct.ConstructKind.TheVariants as construct_kind
+use Rattle.js_terms.specs.declared.construct.ConstructKind.TheVariants as construct_kind
 use Rattle.js_tree.specs.declared.hint.Hint.TheVariants as hint
 use Rattle.js_tree.specs.declared.tree.ConciseBody.TheViews.{out-Declarator, out-Param}
 use Rattle.js_tree.specs.declared.tree.ExprNode.{ExprNode}

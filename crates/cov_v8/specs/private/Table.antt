@@ -1,7 +1,7 @@
 -- The positions at all offsets of a text, for private clauses.
 use Rattle.std.specs.Prelude.{◌≡◌, ℕ, nat_lt, if◌then◌else◌, List, [], ◌∷◌, ◌++◌}
 use Rattle.js_text.specs.Position.{position_of}
-use Rattle.js_tree.specs.declared.place.Pos.{Pos}
+use Rattle.js_terms.specs.declared.place.Pos.{Pos}
 
 -- one for each unit of a character
 abbrev pub copies : ℕ → Pos → List Pos

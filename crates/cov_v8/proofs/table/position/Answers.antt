@@ -1,5 +1,5 @@
 use Rattle.std.proofs.Common.{◌∙◌, ap, get_or, Some}
-use Rattle.js_tree.specs.declared.place.Pos.{Pos}
+use Rattle.js_terms.specs.declared.place.Pos.{Pos}
 use Rattle.cov_object.specs.declared.location.Position.{Position}
 use Rattle.cov_v8.proofs.PlaceLemmas.{at-table, line-from-one}
 use Rattle.cov_v8.proofs.table.position.Goals as goal

@@ -1,7 +1,7 @@
 use Rattle.std.proofs.Common.{sym, ap, ◌∙◌, drop, arith}
 use Rattle.std.proofs.lemmas.Result.{IfOk-weaker}
 use Rattle.js_tree.specs.Plain as P
-use Rattle.js_tree.specs.declared.operators.UnaryOperator.TheVariants as unary_operator
+use Rattle.js_terms.specs.declared.operators.UnaryOperator.TheVariants as unary_operator
 use Rattle.js_host.specs.Iteration.{plain_iteration}
 use Rattle.js_code.specs.Node.{arrow_body}
 use Rattle.js_code.specs.Code.{reader}

@@ -2,7 +2,7 @@
 use Rattle.std.proofs.Common.{◌≡◌, drop}
 use Rattle.cov_hints.specs.Table.{hint_in_table}
 use Rattle.js_tree.specs.Comments.{hint_before, or_earlier}
-use Rattle.js_tree.specs.declared.place.Pos.{Pos}
+use Rattle.js_terms.specs.declared.place.Pos.{Pos}
 use Rattle.cov_hints.proofs.table.Hints.of.Given as goal
 
 abbrev pub invariant-loop-comment : goal.invariant-loop-comment
