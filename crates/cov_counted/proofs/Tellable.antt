@@ -12,7 +12,7 @@ use Rattle.js_terms.specs.declared.construct.Construct.TheVariants as construct
 use Rattle.js_tree.specs.Plain.{File}
 use Rattle.js_walk.specs.Constructs.{constructs_file}
 use Rattle.js_reading.specs.Placed.{IsPlaced, IsPlacedIf, ArePathsPlaced, ArePlaced}
-use Rattle.js_reading.proofs.PlacedTexts.{reads_placed}
+use Rattle.js_reading.proofs.placed.PlacedTexts.{reads_placed}
 use Rattle.js_scopes.specs.Accepted.{Accepted}
 use Rattle.js_meaning.specs.Program.{Source}
 use Rattle.cov_hash.specs.Hash.{hash_text}

@@ -37,7 +37,7 @@ use Rattle.js_walk.specs.Walk.{below, within_expr, within_stmt, within_property_
 use Rattle.js_walk.specs.Constructs as left
 use Rattle.js_walk.specs.Constructs.{told, tell, tell_expr, tell_stmt, counted, branch, counted_function, expr_paths, if_paths, counted_expr}
 use Rattle.js_bounds.specs.Bounds.{IsLowIf, ArePathsLow, AreLow}
-use Rattle.js_reading.proofs.Unhinted.{own_construct, own_expr, own_stmt, chained_in, leaf_places, case_places}
+use Rattle.js_reading.proofs.placed.Unhinted.{own_construct, own_expr, own_stmt, chained_in, leaf_places, case_places}
 use Rattle.js_bounds.proofs.Low.{both, second, both_paths}
 
 first : (xs ys : List Construct) → AreLow (xs ++ ys) → AreLow xs

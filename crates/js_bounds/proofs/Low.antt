@@ -15,7 +15,7 @@ use Rattle.js_tree.specs.Places.{bare_place, stmt_place, case_place, braced_plac
 use Rattle.js_walk.specs.Part as part
 use Rattle.js_walk.specs.Walk.{visit, within_expr, within_exprs, within_expr_if, within_stmts, within_property, within_property_key, within_properties, within_param, within_params, within_function_body, within_concise_body, within_template_part, within_template_parts, within_declarators, within_case, within_cases, within_for_init}
 use Rattle.js_walk.specs.Constructs.{one_column, counted, function_at, declared_place, written_name, counted_function}
-use Rattle.js_reading.proofs.Unhinted.{own_construct, chained_in, case_places, leaf_places, constructs_expr, constructs_stmt, constructs_declarator}
+use Rattle.js_reading.proofs.placed.Unhinted.{own_construct, chained_in, case_places, leaf_places, constructs_expr, constructs_stmt, constructs_declarator}
 use Rattle.js_reading.specs.Level.{assignment}
 use Rattle.js_reading.specs.Spans.{through}
 use Rattle.js_bounds.specs.Bounds.{IsLow, IsLowIf, ArePathsLow, AreLow}

@@ -11,7 +11,7 @@ use Rattle.js_tree.specs.Plain as tree
 use Rattle.js_walk.specs.Walk.{walk_file, within_stmts}
 use Rattle.js_tree.specs.Hints.{heed_comments}
 use Rattle.js_walk.specs.Constructs.{own_construct as own_left, tell, told, constructs_file, all_named}
-use Rattle.js_reading.proofs.Unhinted.{own_construct, chained_in, constructs_stmt}
+use Rattle.js_reading.proofs.placed.Unhinted.{own_construct, chained_in, constructs_stmt}
 use Rattle.js_bounds.proofs.LeftLow.{in_stmts_left}
 use Rattle.js_text.specs.Place.{Place}
 use Rattle.js_text.specs.Position.{utf16_units, lines_ended, line_so_far, saturated, position_of}
@@ -32,7 +32,7 @@ use Rattle.js_reading.specs.Choices.{branch}
 use Rattle.js_reading.specs.Sentences
 use Rattle.js_reading.specs.Sentences.{named, of_word, body_and_flags, regular_expression, leaf_of, Spells, SpellsSlots, SpellsItems, SpellsStmts, Sentence}
 use Rattle.js_reading.specs.Reads.{goal_of, after_gap_of, continued, next_for, Lexes, no_token, one_more, without_comments, Reads}
-use Rattle.js_reading.proofs.Branches.{branches, each, among}
+use Rattle.js_reading.proofs.sentences.Branches.{branches, each, among}
 use Rattle.js_bounds.proofs.Low.{both, in_stmts, node, LowExpr, LowExprs, LowPiece, LowPieces, LowIf, directives_low, low_made}
 
 -- ---- tokens

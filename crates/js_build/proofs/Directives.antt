@@ -4,7 +4,7 @@ use Rattle.js_terms.specs.declared.place.Loc.{Loc}
 use Rattle.js_tree.specs.Plain.{Expr, Stmt, Stmts, no_stmt, more_stmt, push_stmts}
 use Rattle.js_tree.specs.Plain as tree
 use Rattle.js_reading.specs.Makes.{with_directives}
-use Rattle.js_reading.proofs.Heights.{directives_same}
+use Rattle.js_reading.proofs.heights.Heights.{directives_same}
 use Rattle.js_build.specs.Prologue.{directed_of, directive_of, is_string, is_string_statement}
 
 pub no_directive : (l : Option Loc) (e : Expr) → is_string e ≡ false → directive_of (tree.Expression l e) ≡ tree.Expression l e

@@ -18,8 +18,8 @@ use Rattle.js_reading.specs.Choices.{branch, either}
 use Rattle.js_reading.specs.Makes.{build, arrow_of, params_of, bare_in, with_directives}
 use Rattle.js_reading.specs.Sentences
 use Rattle.js_reading.specs.Sentences.{Spells, SpellsSlots}
-use Rattle.js_reading.proofs.KindsLemmas.{kind_is}
-use Rattle.js_reading.proofs.Firsts.{first_expr}
+use Rattle.js_reading.proofs.sentences.KindsLemmas.{kind_is}
+use Rattle.js_reading.proofs.sentences.Firsts.{first_expr}
 use Rattle.js_spelling.specs.Written.{Written}
 use Rattle.js_layout.specs.Tokens.{expr_tokens, stmts_tokens, params_tokens, concise_tokens, braced}
 use Rattle.js_layout.specs.Tokens as written

@@ -20,10 +20,10 @@ use Rattle.js_reading.specs.Productions.{mark, slots, join, begins_with, after_f
 use Rattle.js_reading.specs.Makes.{build, comma_of, loc_of, is_target, is_and_or, arrow_of, params_of, concise, expression_of, object_of, properties_of, length_of, template_of, template_parts, function_of}
 use Rattle.js_reading.specs.Sentences
 use Rattle.js_reading.specs.Sentences.{Spells, SpellsSlots, SpellsItems, goes_on}
-use Rattle.js_reading.proofs.KindsLemmas.{kind_is}
-use Rattle.js_reading.proofs.Shapes.{begins_prefix, begins_join}
-use Rattle.js_reading.proofs.Makings.{is_first, is_join}
-use Rattle.js_reading.proofs.Tightness.{is_first_form, is_join_form}
+use Rattle.js_reading.proofs.sentences.KindsLemmas.{kind_is}
+use Rattle.js_reading.proofs.sentences.Shapes.{begins_prefix, begins_join}
+use Rattle.js_reading.proofs.levels.Makings.{is_first, is_join}
+use Rattle.js_reading.proofs.levels.Tightness.{is_first_form, is_join_form}
 use Rattle.js_layout.specs.Unplaced.{unplaced_expr}
 use Rattle.js_layout.proofs.Follows.{Quiet}
 use Rattle.js_layout.proofs.ExpressLevels.{no_going_on}

@@ -16,8 +16,8 @@ use Rattle.js_reading.specs.Choices.{branch}
 use Rattle.js_reading.specs.Makes.{is_target, is_async, is_const, one_more_declarator, declarators_of, variables_of, maybe, for_with, for_of, for_declared, for_parts, declaration_of, function_of, switch_of, cases_of, build}
 use Rattle.js_reading.specs.Sentences.{Spells, SpellsSlots}
 use Rattle.js_reading.specs.Sentences
-use Rattle.js_reading.proofs.Branches.{branches, each, among}
-use Rattle.js_reading.proofs.Shapes.{find_all}
+use Rattle.js_reading.proofs.sentences.Branches.{branches, each, among}
+use Rattle.js_reading.proofs.sentences.Shapes.{find_all}
 use Rattle.js_layout.specs.Printable.{ends_open}
 
 -- ---- the last piece

@@ -20,7 +20,7 @@ use Rattle.js_reading.specs.Makes.{with_directives}
 use Rattle.js_reading.specs.Outside.{this_stmts}
 use Rattle.js_reading.specs.Sentences.{Spells, SpellsSlots, SpellsItems, SpellsStmts, Sentence}
 use Rattle.js_reading.specs.Sentences
-use Rattle.js_reading.proofs.Branches.{branches, each, among}
+use Rattle.js_reading.proofs.sentences.Branches.{branches, each, among}
 use Rattle.js_spelling.specs.Laws.{AreOnes}
 use Rattle.js_layout.specs.Printable.{ends_open}
 use Rattle.js_layout.proofs.Fine.{FineExprs, FineStmts, FinePieces, FineMade}

@@ -13,7 +13,7 @@ use Rattle.js_reading.specs.Productions.{bound_name, word_piece, piece_of, text_
 use Rattle.js_reading.specs.Choices.{is_middle, branch}
 use Rattle.js_reading.specs.Sentences.{SpellsSlots}
 use Rattle.js_reading.specs.Sentences
-use Rattle.js_reading.proofs.Branches.{among}
+use Rattle.js_reading.proofs.sentences.Branches.{among}
 use Rattle.js_spelling.specs.Laws.{IsOne, AreOnes}
 use Rattle.js_layout.proofs.FineParts.{RightTexts, TemplateTexts, begins_word}
 use Rattle.js_layout.proofs.FineMade.{KindWord}

@@ -16,7 +16,7 @@ use Rattle.js_reading.specs.Productions.{slots}
 use Rattle.js_reading.specs.Choices.{branch}
 use Rattle.js_reading.specs.Sentences.{Spells, SpellsSlots, SpellsItems, SpellsStmts, Sentence}
 use Rattle.js_reading.specs.Sentences
-use Rattle.js_reading.proofs.Branches.{branches, each, among}
+use Rattle.js_reading.proofs.sentences.Branches.{branches, each, among}
 use Rattle.js_spelling.proofs.Alone.{some_spelling}
 use Rattle.js_layout.proofs.ShortSizes.{size_expr, size_stmt, size_stmts}
 use Rattle.js_layout.proofs.ShortPieces.{bulk, bulk_append, size_items, sizes_items, cost, costs, costs_append, allowance, paid, paid_append, debt, debt_append, Pays}

@@ -17,7 +17,7 @@ use Rattle.js_reading.specs.Slots.{Level, WithoutIn, Slot, Expr_, By, Piece, AnE
 use Rattle.js_reading.specs.Choices.{branch, either, for_rest}
 use Rattle.js_reading.specs.Makes.{bare_in, is_declaration, declarators_of, maybe, for_with, for_of, for_parts}
 use Rattle.js_reading.specs.Sentences.{fits}
-use Rattle.js_reading.proofs.Firsts.{opens, not_kind}
+use Rattle.js_reading.proofs.sentences.Firsts.{opens, not_kind}
 use Rattle.js_spelling.specs.Written.{Written}
 use Rattle.js_layout.specs.Tokens.{expr_tokens, stmt_tokens, maybe_tokens, mark}
 use Rattle.js_layout.specs.Neat.{first_is}

@@ -22,7 +22,7 @@ use Rattle.js_reading.specs.Productions.{slots, statement}
 use Rattle.js_reading.specs.Choices.{branch, either}
 use Rattle.js_reading.specs.Makes.{build, is_declaration}
 use Rattle.js_reading.specs.Sentences
-use Rattle.js_reading.proofs.Firsts.{opens, not_kind, first_slots}
+use Rattle.js_reading.proofs.sentences.Firsts.{opens, not_kind, first_slots}
 use Rattle.js_spelling.specs.Written.{Written}
 use Rattle.js_layout.specs.Tokens.{expr_tokens, stmt_tokens, stmts_tokens, begun, mark, last_mark, braced, in_parentheses}
 use Rattle.js_layout.specs.Neat.{level}

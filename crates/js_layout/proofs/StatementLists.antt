@@ -20,8 +20,8 @@ use Rattle.js_reading.specs.Productions.{primary, string_of, prefix, statement}
 use Rattle.js_reading.specs.Makes.{with_directives}
 use Rattle.js_reading.specs.Sentences
 use Rattle.js_reading.specs.Sentences.{closes, leaf_of, Spells, SpellsStmts}
-use Rattle.js_reading.proofs.Firsts.{starts, not_kind, first_stmt}
-use Rattle.js_reading.proofs.Shapes.{first_append}
+use Rattle.js_reading.proofs.sentences.Firsts.{starts, not_kind, first_stmt}
+use Rattle.js_reading.proofs.sentences.Shapes.{first_append}
 use Rattle.js_layout.specs.Tokens.{stmt_tokens, stmts_tokens, token, last_mark, begun}
 use Rattle.js_layout.specs.Neat.{is_string}
 use Rattle.js_layout.specs.Printable.{IsString}

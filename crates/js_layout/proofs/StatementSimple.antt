@@ -16,7 +16,7 @@ use Rattle.js_reading.specs.Choices.{either}
 use Rattle.js_reading.specs.Makes.{is_declaration}
 use Rattle.js_reading.specs.Sentences
 use Rattle.js_reading.specs.Sentences.{leaf_of}
-use Rattle.js_reading.proofs.Firsts.{first_slots}
+use Rattle.js_reading.proofs.sentences.Firsts.{first_slots}
 use Rattle.js_spelling.specs.Written.{Written}
 use Rattle.js_layout.specs.Tokens.{expr_tokens, stmt_tokens, last_mark, word, mark}
 use Rattle.js_layout.specs.Neat.{first_is}

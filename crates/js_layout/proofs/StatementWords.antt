@@ -17,8 +17,8 @@ use Rattle.js_reading.specs.declared.form.Form.{Form}
 use Rattle.js_reading.specs.Productions.{prefix, statement}
 use Rattle.js_reading.specs.Sentences.{leaf_of}
 use Rattle.js_reading.specs.Sentences
-use Rattle.js_reading.proofs.KindsLemmas.{kind_is}
-use Rattle.js_reading.proofs.Firsts.{opens, not_kind}
+use Rattle.js_reading.proofs.sentences.KindsLemmas.{kind_is}
+use Rattle.js_reading.proofs.sentences.Firsts.{opens, not_kind}
 use Rattle.js_spelling.specs.Written.{Written}
 use Rattle.js_layout.specs.Neat.{first_is, is_brace, is_function}
 use Rattle.js_layout.proofs.Follows.{Follows}

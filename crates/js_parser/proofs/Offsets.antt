@@ -5,7 +5,7 @@ use Rattle.js_terms.specs.declared.place.Pos.{Pos}
 use Rattle.js_text.specs.Place.{Place}
 use Rattle.js_text.specs.Position.{position_of}
 use Rattle.js_text.specs.Lex.{characters_of}
-use Rattle.js_reading.proofs.Apart.{length_append}
+use Rattle.js_reading.proofs.goals.Apart.{length_append}
 
 -- no place of this position stands before
 abbrev pub NoneBefore : List ℕ → Pos → Place → Type 0

@@ -9,7 +9,7 @@ use Rattle.js_reading.specs.Turns.{Config, turn}
 use Rattle.js_reading.specs.declared.unsupported.Unsupported.TheVariants.{ThisOutside}
 use Rattle.js_reading.specs.Found as Found
 use Rattle.js_reading.specs.Found.{Find, Turns, first_of, when, one, two_back, three_back, group, arrow_after, called, proto_back, parameter, found, Searched}
-use Rattle.js_reading.proofs.Taken.{read_found}
+use Rattle.js_reading.proofs.finding.Taken.{read_found}
 use Rattle.js_stack.specs.Sight.{callee, outside}
 use Rattle.js_stack.proofs.SightLemmas.{called_is, outside_is}
 

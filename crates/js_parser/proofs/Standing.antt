@@ -21,12 +21,12 @@ use Rattle.js_reading.specs.Open.{floor}
 use Rattle.js_reading.specs.declared.unsupported.Unsupported.{Unsupported}
 use Rattle.js_reading.specs.Found.{Find, or_else, found, ahead, Searched, not_begun, searched}
 use Rattle.js_reading.specs.Reads.{after_gap_of, continued, unless_braced, asked_for, Lexes, no_token, comments_of_token, comments_of_tokens, start_of, Reads, Reaches, NoTree, Supported, LeftOut, TooHigh, Leads, next_two}
-use Rattle.js_reading.proofs.Heights.{directives_same}
-use Rattle.js_reading.proofs.Texts.{led_on, Stops, stuck, no_tree, higher, has_tree, its_tree}
-use Rattle.js_reading.proofs.LeftOut.{leaves_out, leaves_out_ahead, supports_ended, supports_refused, one_place}
-use Rattle.js_reading.proofs.Ended.{ended_high}
-use Rattle.js_reading.proofs.Finishing.{is_finished, end_finishes}
-use Rattle.js_reading.proofs.Opening.{begins_more}
+use Rattle.js_reading.proofs.heights.Heights.{directives_same}
+use Rattle.js_reading.proofs.goals.Texts.{led_on, Stops, stuck, no_tree, higher, has_tree, its_tree}
+use Rattle.js_reading.proofs.finding.LeftOut.{leaves_out, leaves_out_ahead, supports_ended, supports_refused, one_place}
+use Rattle.js_reading.proofs.heights.Ended.{ended_high}
+use Rattle.js_reading.proofs.goals.Finishing.{is_finished, end_finishes}
+use Rattle.js_reading.proofs.heights.Opening.{begins_more}
 use Rattle.js_stack.specs.Reader.{ended, height_of}
 use Rattle.js_parser.specs.Refused.{Because, RefusesText}
 use Rattle.js_parser.specs.declared.refused.Refused.{Refused}

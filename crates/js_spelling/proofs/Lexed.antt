@@ -21,7 +21,7 @@ use Rattle.js_text.specs.Token as T
 use Rattle.js_text.specs.Units.{template_rest}
 use Rattle.js_text.specs.Lex.{token_by, continued_kind, common_token, continued_token, token_of, is_quote, slash_token, begins_comment, moved, gap_run, token_place, token_after, next_token}
 use Rattle.js_reading.specs.Reads.{goal_of, after_gap_of, continued, next_for, Lexes, no_token, one_more, start_of}
-use Rattle.js_reading.proofs.Tokens.{closing}
+use Rattle.js_reading.proofs.goals.Tokens.{closing}
 use Rattle.js_spelling.specs.Written.{Written, letters, first_is, spaced, between, after_last, text_from, text_of}
 use Rattle.js_spelling.specs.Tokens.{is_written, IsToken, AreTokens, Follow}
 use Rattle.js_spelling.proofs.Lists.{never, none_left}

@@ -10,7 +10,7 @@ use Rattle.js_text.specs.Punctuator.{spelling_of, punctuators, begins_with, begi
 use Rattle.js_text.specs.Lex.{begins_comment}
 use Rattle.js_text.specs.Token as T
 use Rattle.js_reading.specs.Kinds.{code_of}
-use Rattle.js_reading.proofs.KindsLemmas.{kind_is}
+use Rattle.js_reading.proofs.sentences.KindsLemmas.{kind_is}
 use Rattle.js_spelling.specs.Written.{first_is}
 use Rattle.js_spelling.proofs.Lists.{character_is, digit_is, first_less}
 

@@ -15,8 +15,8 @@ use Rattle.js_reading.specs.Slots.{Slot, Expr_, Piece}
 use Rattle.js_reading.specs.Productions.{piece_of}
 use Rattle.js_reading.specs.Sentences
 use Rattle.js_reading.specs.Sentences.{leaf_of, Spells, SpellsSlots, SpellsItems, SpellsStmts}
-use Rattle.js_reading.proofs.Shapes.{first_append}
-use Rattle.js_reading.proofs.Firsts.{opens, remade, first_slots}
+use Rattle.js_reading.proofs.sentences.Shapes.{first_append}
+use Rattle.js_reading.proofs.sentences.Firsts.{opens, remade, first_slots}
 use Rattle.js_spelling.specs.Tokens.{begins_operand, is_name, is_longest, may_follow, Beside, StandBeside}
 use Rattle.js_spelling.specs.Laws.{SentencesStand}
 use Rattle.js_spelling.proofs.Wants.{name_first, expr_first, wanted_after, follows, well_set, well_form, well_chosen}

@@ -18,8 +18,8 @@ use Rattle.js_reading.specs.declared.form.Form.TheVariants as form
 use Rattle.js_reading.specs.Slots.{Slot, Sign, Text, Expr_, Items_, Piece, Branch, Go}
 use Rattle.js_reading.specs.Productions.{slots}
 use Rattle.js_reading.specs.Choices.{branch}
-use Rattle.js_reading.proofs.Branches.{branches, each, among}
-use Rattle.js_reading.proofs.Shapes.{both_true}
+use Rattle.js_reading.proofs.sentences.Branches.{branches, each, among}
+use Rattle.js_reading.proofs.sentences.Shapes.{both_true}
 use Rattle.js_spelling.specs.Tokens.{begins_operand, is_name, is_longest, may_follow}
 
 -- ---- the next slot

@@ -1,17 +1,17 @@
-use Rattle.js_reading.proofs.Apart.{text_apart}
-use Rattle.js_reading.proofs.Finds.{found_begins, ahead_begins}
-use Rattle.js_reading.proofs.Floors.{low}
-use Rattle.js_reading.proofs.Found.{clean, clean_more, clean_text}
-use Rattle.js_reading.proofs.Goals.{asks}
-use Rattle.js_reading.proofs.LeftOut.{leaves_out, leaves_out_ahead, supports_ended, supports_refused, one_place}
-use Rattle.js_reading.proofs.Opening.{begins_more}
-use Rattle.js_reading.proofs.Reading.{complete}
-use Rattle.js_reading.proofs.Refusing.{this_begins, stops_run, begins_dead}
-use Rattle.js_reading.proofs.Sound.{reads_only}
-use Rattle.js_reading.proofs.PlacedTexts.{reads_placed}
-use Rattle.js_reading.proofs.Taken.{read_finds}
-use Rattle.js_reading.proofs.Texts.{text_tree}
-use Rattle.js_reading.proofs.Unique.{one_tree, dead}
+use Rattle.js_reading.proofs.goals.Apart.{text_apart}
+use Rattle.js_reading.proofs.finding.Finds.{found_begins, ahead_begins}
+use Rattle.js_reading.proofs.heights.Floors.{low}
+use Rattle.js_reading.proofs.finding.Found.{clean, clean_more, clean_text}
+use Rattle.js_reading.proofs.goals.Goals.{asks}
+use Rattle.js_reading.proofs.finding.LeftOut.{leaves_out, leaves_out_ahead, supports_ended, supports_refused, one_place}
+use Rattle.js_reading.proofs.heights.Opening.{begins_more}
+use Rattle.js_reading.proofs.sentences.Reading.{complete}
+use Rattle.js_reading.proofs.refusing.Refusing.{this_begins, stops_run, begins_dead}
+use Rattle.js_reading.proofs.sentences.Sound.{reads_only}
+use Rattle.js_reading.proofs.placed.PlacedTexts.{reads_placed}
+use Rattle.js_reading.proofs.finding.Taken.{read_finds}
+use Rattle.js_reading.proofs.goals.Texts.{text_tree}
+use Rattle.js_reading.proofs.sentences.Unique.{one_tree, dead}
 use Rattle.js_reading.proofs.language.Goals as goal
 
 pub returns-clause-reads : goal.returns-clause-reads

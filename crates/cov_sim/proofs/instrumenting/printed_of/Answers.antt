@@ -5,7 +5,7 @@ use Rattle.js_tree.specs.Plain.{File}
 use Rattle.js_tree.specs.Tree.{plain_file}
 use Rattle.js_walk.specs.Constructs.{constructs_file}
 use Rattle.js_text.specs.Limits.{again_limits}
-use Rattle.js_reading.proofs.PlacedTexts.{reads_placed}
+use Rattle.js_reading.proofs.placed.PlacedTexts.{reads_placed}
 use Rattle.js_layout.specs.Layout.{layout, marks}
 use Rattle.js_print.specs.declared.printed.Printed.{Printed}
 use Rattle.cov_hash.specs.Hash.{hash_text}

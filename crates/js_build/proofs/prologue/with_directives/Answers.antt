@@ -4,7 +4,7 @@ use Rattle.js_tree.specs.Plain.{push_stmts}
 use Rattle.js_tree.specs.Tree.{plain_stmt, plain_stmts}
 use Rattle.js_tree.proofs.Equations.{stmts_push}
 use Rattle.js_reading.specs.Makes as makes
-use Rattle.js_reading.proofs.Heights.{directives_same}
+use Rattle.js_reading.proofs.heights.Heights.{directives_same}
 use Rattle.js_build.specs.Prologue.{directed_of, is_string_statement}
 use Rattle.js_build.proofs.Directives.{and_true, and_false, directive_turn, directives_end, joined, rest}
 use Rattle.js_build.proofs.prologue.with_directives.Goals.{then-prologue, else-prologue}

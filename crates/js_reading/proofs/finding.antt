@@ -1,0 +1,11 @@
+pub mod Begun
+pub mod BegunCalls
+pub mod BegunGroups
+pub mod BegunParameters
+pub mod Finds
+pub mod Found
+pub mod Groups
+pub mod LeftOut
+pub mod Shown
+pub mod Taken
+pub mod Whole

@@ -1,0 +1,4 @@
+pub mod Ended
+pub mod Floors
+pub mod Heights
+pub mod Opening

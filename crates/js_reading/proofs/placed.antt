@@ -1,0 +1,4 @@
+pub mod LeftPlaced
+pub mod Placed
+pub mod PlacedTexts
+pub mod Unhinted

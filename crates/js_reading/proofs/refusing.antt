@@ -1,0 +1,11 @@
+pub mod Arrows
+pub mod Callees
+pub mod Dooms
+pub mod Endless
+pub mod OuterKept
+pub mod OuterMade
+pub mod Parameters
+pub mod Protos
+pub mod Quiet
+pub mod Refusing
+pub mod Targets

@@ -1,0 +1,15 @@
+pub mod Branches
+pub mod Firsts
+pub mod Having
+pub mod KindsLemmas
+pub mod Lists
+pub mod Passing
+pub mod Places
+pub mod Reading
+pub mod Rows
+pub mod Runs
+pub mod Shapes
+pub mod Sound
+pub mod Standing
+pub mod Unique
+pub mod Ways
