@@ -10,30 +10,8 @@ use Rattle.js_tree.specs.Hints.{Heed, Ignored, Heeding, heed, heed_arm, heed_com
 use Rattle.js_terms.specs.Mark.{Mark}
 use Rattle.js_tree.specs.Linked.{Counts, next_of, after_one, mark, function_place}
 use Rattle.js_tree.specs.Places.{bare_place, expr_place, stmt_place, stmt_if_place, property_place, param_place, declarator_place, case_place, concise_place, braced_place, body_place}
-use Rattle.js_tree.specs.Plain.{Expr, IdentifierReference, This, NullLiteral, BooleanLiteral, NumericLiteral, StringLiteral, ArrayLiteral, ObjectLiteral, FunctionExpression, ArrowFunction, RegularExpressionLiteral, TemplateLiteral, Parenthesized, NamedMember, ComputedMember, New, Call, PostfixUpdate, PrefixUpdate, Unary, Binary, Logical, Conditional, Assignment, Comma, Entered}
-use Rattle.js_tree.specs.Plain.{Stmt, Directive, Block, VariableDeclaration, Empty, Expression, If, DoWhile, While, For, ForIn, ForOf, Continue, Break, Return, Switch, Labelled, Throw, TryCatch, TryFinally, TryCatchFinally, Debugger, FunctionDeclaration, EnteredStmt}
-use Rattle.js_tree.specs.Plain.{Property, Shorthand, KeyValue, Method}
-use Rattle.js_tree.specs.Plain.{PropertyKey, NameKey, StringKey, NumberKey, ComputedKey}
-use Rattle.js_tree.specs.Plain.{ConciseBody, ExpressionBody, BlockBody}
-use Rattle.js_tree.specs.Plain.{ForInit, NoInit, InitDeclaration, InitExpression}
-use Rattle.js_tree.specs.Plain.{ForTarget, TargetDeclaration, TargetExpression}
-use Rattle.js_tree.specs.Plain.{TemplatePart, MakeTemplatePart}
-use Rattle.js_tree.specs.Plain.{Function, MakeFunction}
-use Rattle.js_tree.specs.Plain.{FunctionBody, MakeFunctionBody, EnteredBody}
-use Rattle.js_tree.specs.Plain.{Param, MakeParam}
-use Rattle.js_tree.specs.Plain.{Declarator, MakeDeclarator}
-use Rattle.js_tree.specs.Plain.{Case, MakeCase, EnteredCase}
-use Rattle.js_tree.specs.Plain.{Catch, MakeCatch}
-use Rattle.js_tree.specs.Plain.{MaybeExpr, none_expr, some_expr}
-use Rattle.js_tree.specs.Plain.{MaybeStmt, none_stmt, some_stmt, entered_none}
-use Rattle.js_tree.specs.Plain.{Exprs, no_expr, more_expr}
-use Rattle.js_tree.specs.Plain.{TemplateParts, no_template_part, more_template_part}
-use Rattle.js_tree.specs.Plain.{Properties, no_property, more_property}
-use Rattle.js_tree.specs.Plain.{Params, no_param, more_param}
-use Rattle.js_tree.specs.Plain.{Stmts, no_stmt, more_stmt}
-use Rattle.js_tree.specs.Plain.{Declarators, no_declarator, more_declarator}
-use Rattle.js_tree.specs.Plain.{Cases, no_case, more_case}
-use Rattle.js_tree.specs.Plain.{File, MakeFile}
+use Rattle.js_tree.specs.Plain as tree
+use Rattle.js_tree.specs.Plain.{Expr, Stmt, Property, PropertyKey, ConciseBody, ForInit, ForTarget, TemplatePart, Function, FunctionBody, Param, Declarator, Case, Catch, MaybeExpr, MaybeStmt, Exprs, TemplateParts, Properties, Params, Stmts, Declarators, Cases, File}
 use Rattle.cov_rewritten.specs.Rewritten.{is_anonymous, bound_name, joined, after_directives, counts, counted, held, initial}
 use Rattle.cov_rewrite.specs.Blocks.{block_unless, arm_of, else_of, concise_of, are_some}
 
@@ -81,146 +59,146 @@ left_in left e = heed left (expr_place e)
 
 abbrev mutual
   pub next_expr : Heed → Bool → Expr → Counts → Counts
-  next_expr left chained (ArrayLiteral loc es) k = next_exprs left es k
-  next_expr left chained (ObjectLiteral loc properties) k = next_properties left properties k
-  next_expr left chained (FunctionExpression loc name function) k = next_function left (function_place loc name (body_place function)) function k
-  next_expr left chained (ArrowFunction loc i params body) k = next_concise left body (next_params left params (after construct_kind.Function left (function_place loc None (concise_place body)) k))
-  next_expr left chained (TemplateLiteral loc spelled parts) k = next_parts left parts k
-  next_expr left chained (Parenthesized loc e) k = next_expr left chained e k
-  next_expr left chained (NamedMember loc e text) k = next_expr (left_in left e) false e k
-  next_expr left chained (ComputedMember loc e f) k = next_expr (left_in left f) false f (next_expr (left_in left e) false e k)
-  next_expr left chained (New loc e es) k = next_exprs left es (next_expr (left_in left e) false e k)
-  next_expr left chained (Call loc e es) k = next_exprs left es (next_expr (left_in left e) false e k)
-  next_expr left chained (PostfixUpdate loc operator e) k = next_expr (left_in left e) false e k
-  next_expr left chained (PrefixUpdate loc operator e) k = next_expr (left_in left e) false e k
-  next_expr left chained (Unary loc operator e) k = next_expr (left_in left e) false e k
-  next_expr left chained (Binary loc operator e f) k = next_expr (left_in left f) false f (next_expr (left_in left e) false e k)
-  next_expr left true (Logical loc operator e f) k = next_expr (left_in left f) true f (next_expr (left_in left e) true e k)
-  next_expr left false (Logical loc operator e f) k = next_expr (left_in left f) true f (next_expr (left_in left e) true e (after construct_kind.Branch left loc k))
-  next_expr left chained (Conditional loc e f g) k = next_expr (left_in left g) false g (next_expr (left_in left f) false f (next_expr (left_in left e) false e (after construct_kind.Branch left loc k)))
-  next_expr left chained (Assignment loc operator e f) k = next_expr (left_in left f) false f (next_expr (left_in left e) false e k)
-  next_expr left chained (Comma loc e f) k = next_expr (left_in left f) false f (next_expr (left_in left e) false e k)
-  next_expr left chained (Entered m e) k = next_expr left chained e k
+  next_expr left chained (tree.ArrayLiteral loc es) k = next_exprs left es k
+  next_expr left chained (tree.ObjectLiteral loc properties) k = next_properties left properties k
+  next_expr left chained (tree.FunctionExpression loc name function) k = next_function left (function_place loc name (body_place function)) function k
+  next_expr left chained (tree.ArrowFunction loc i params body) k = next_concise left body (next_params left params (after construct_kind.Function left (function_place loc None (concise_place body)) k))
+  next_expr left chained (tree.TemplateLiteral loc spelled parts) k = next_parts left parts k
+  next_expr left chained (tree.Parenthesized loc e) k = next_expr left chained e k
+  next_expr left chained (tree.NamedMember loc e text) k = next_expr (left_in left e) false e k
+  next_expr left chained (tree.ComputedMember loc e f) k = next_expr (left_in left f) false f (next_expr (left_in left e) false e k)
+  next_expr left chained (tree.New loc e es) k = next_exprs left es (next_expr (left_in left e) false e k)
+  next_expr left chained (tree.Call loc e es) k = next_exprs left es (next_expr (left_in left e) false e k)
+  next_expr left chained (tree.PostfixUpdate loc operator e) k = next_expr (left_in left e) false e k
+  next_expr left chained (tree.PrefixUpdate loc operator e) k = next_expr (left_in left e) false e k
+  next_expr left chained (tree.Unary loc operator e) k = next_expr (left_in left e) false e k
+  next_expr left chained (tree.Binary loc operator e f) k = next_expr (left_in left f) false f (next_expr (left_in left e) false e k)
+  next_expr left true (tree.Logical loc operator e f) k = next_expr (left_in left f) true f (next_expr (left_in left e) true e k)
+  next_expr left false (tree.Logical loc operator e f) k = next_expr (left_in left f) true f (next_expr (left_in left e) true e (after construct_kind.Branch left loc k))
+  next_expr left chained (tree.Conditional loc e f g) k = next_expr (left_in left g) false g (next_expr (left_in left f) false f (next_expr (left_in left e) false e (after construct_kind.Branch left loc k)))
+  next_expr left chained (tree.Assignment loc operator e f) k = next_expr (left_in left f) false f (next_expr (left_in left e) false e k)
+  next_expr left chained (tree.Comma loc e f) k = next_expr (left_in left f) false f (next_expr (left_in left e) false e k)
+  next_expr left chained (tree.Entered m e) k = next_expr left chained e k
   next_expr left chained e k = k
 
   pub next_exprs : Heed → Exprs → Counts → Counts
-  next_exprs left no_expr k = k
-  next_exprs left (more_expr e es) k = next_exprs left es (next_expr (left_in left e) false e k)
+  next_exprs left tree.no_expr k = k
+  next_exprs left (tree.more_expr e es) k = next_exprs left es (next_expr (left_in left e) false e k)
 
   pub next_parts : Heed → TemplateParts → Counts → Counts
-  next_parts left no_template_part k = k
-  next_parts left (more_template_part x xs) k = next_parts left xs (next_part left x k)
+  next_parts left tree.no_template_part k = k
+  next_parts left (tree.more_template_part x xs) k = next_parts left xs (next_part left x k)
 
   pub next_part : Heed → TemplatePart → Counts → Counts
-  next_part left (MakeTemplatePart e spelled) k = next_expr (left_in left e) false e k
+  next_part left (tree.MakeTemplatePart e spelled) k = next_expr (left_in left e) false e k
 
   pub next_properties : Heed → Properties → Counts → Counts
-  next_properties left no_property k = k
-  next_properties left (more_property x xs) k = next_properties left xs (next_property (heed left (property_place x)) x k)
+  next_properties left tree.no_property k = k
+  next_properties left (tree.more_property x xs) k = next_properties left xs (next_property (heed left (property_place x)) x k)
 
   pub next_property : Heed → Property → Counts → Counts
-  next_property left (Shorthand loc text) k = k
-  next_property left (KeyValue loc key e) k = next_expr (left_in left e) false e (next_key left key k)
-  next_property left (Method loc key (MakeFunction i params body)) k = next_body left body (next_params left params (next_key left key (after construct_kind.Function left (function_place loc None (braced_place body)) k)))
+  next_property left (tree.Shorthand loc text) k = k
+  next_property left (tree.KeyValue loc key e) k = next_expr (left_in left e) false e (next_key left key k)
+  next_property left (tree.Method loc key (tree.MakeFunction i params body)) k = next_body left body (next_params left params (next_key left key (after construct_kind.Function left (function_place loc None (braced_place body)) k)))
 
   pub next_key : Heed → PropertyKey → Counts → Counts
-  next_key left (ComputedKey e) k = next_expr (left_in left e) false e k
+  next_key left (tree.ComputedKey e) k = next_expr (left_in left e) false e k
   next_key left key k = k
 
   pub next_function : Heed → Option Loc → Function → Counts → Counts
-  next_function left place (MakeFunction i params body) k = next_body left body (next_params left params (after construct_kind.Function left place k))
+  next_function left place (tree.MakeFunction i params body) k = next_body left body (next_params left params (after construct_kind.Function left place k))
 
   pub next_body : Heed → FunctionBody → Counts → Counts
-  next_body left (MakeFunctionBody loc xs) k = next_stmts left xs k
-  next_body left (EnteredBody m body) k = next_body left body k
+  next_body left (tree.MakeFunctionBody loc xs) k = next_stmts left xs k
+  next_body left (tree.EnteredBody m body) k = next_body left body k
 
   pub next_concise : Heed → ConciseBody → Counts → Counts
-  next_concise left (ExpressionBody e) k = next_expr (left_in left e) false e (after construct_kind.Statement (left_in left e) (bare_place e) k)
-  next_concise left (BlockBody body) k = next_body left body k
+  next_concise left (tree.ExpressionBody e) k = next_expr (left_in left e) false e (after construct_kind.Statement (left_in left e) (bare_place e) k)
+  next_concise left (tree.BlockBody body) k = next_body left body k
 
   pub next_params : Heed → Params → Counts → Counts
-  next_params left no_param k = k
-  next_params left (more_param x xs) k = next_params left xs (next_param (heed left (param_place x)) x k)
+  next_params left tree.no_param k = k
+  next_params left (tree.more_param x xs) k = next_params left xs (next_param (heed left (param_place x)) x k)
 
   pub next_param : Heed → Param → Counts → Counts
-  next_param left (MakeParam loc pattern none_expr) k = k
-  next_param left (MakeParam loc pattern (some_expr e)) k = next_expr (left_in left e) false e (after construct_kind.Branch left loc k)
+  next_param left (tree.MakeParam loc pattern tree.none_expr) k = k
+  next_param left (tree.MakeParam loc pattern (tree.some_expr e)) k = next_expr (left_in left e) false e (after construct_kind.Branch left loc k)
 
   pub next_maybe : Heed → MaybeExpr → Counts → Counts
-  next_maybe left none_expr k = k
-  next_maybe left (some_expr e) k = next_expr (left_in left e) false e k
+  next_maybe left tree.none_expr k = k
+  next_maybe left (tree.some_expr e) k = next_expr (left_in left e) false e k
 
   pub next_stmts : Heed → Stmts → Counts → Counts
-  next_stmts left no_stmt k = k
-  next_stmts left (more_stmt x xs) k = next_stmts left xs (next_stmt (heed left (stmt_place x)) x k)
+  next_stmts left tree.no_stmt k = k
+  next_stmts left (tree.more_stmt x xs) k = next_stmts left xs (next_stmt (heed left (stmt_place x)) x k)
 
   pub next_stmt : Heed → Stmt → Counts → Counts
-  next_stmt left (Directive loc spelled) k = k
-  next_stmt left (Block loc xs) k = next_stmts left xs k
-  next_stmt left (VariableDeclaration loc kind xs) k = next_declarators left xs k
-  next_stmt left (Empty loc) k = k
-  next_stmt left (Expression loc e) k = next_expr (left_in left e) false e (after construct_kind.Statement left loc k)
-  next_stmt left (If loc e x y) k =
+  next_stmt left (tree.Directive loc spelled) k = k
+  next_stmt left (tree.Block loc xs) k = next_stmts left xs k
+  next_stmt left (tree.VariableDeclaration loc kind xs) k = next_declarators left xs k
+  next_stmt left (tree.Empty loc) k = k
+  next_stmt left (tree.Expression loc e) k = next_expr (left_in left e) false e (after construct_kind.Statement left loc k)
+  next_stmt left (tree.If loc e x y) k =
       next_arm (heed (heed_arm hint.Else left loc) (stmt_if_place y)) y (next_stmt (heed (heed_arm hint.If left loc) (stmt_place x)) x
       (next_expr (left_in left e) false e (after construct_kind.Branch left loc (after construct_kind.Statement left loc k))))
-  next_stmt left (DoWhile loc x e) k = next_expr (left_in left e) false e (next_stmt (heed left (stmt_place x)) x (after construct_kind.Statement left loc k))
-  next_stmt left (While loc e x) k = next_stmt (heed left (stmt_place x)) x (next_expr (left_in left e) false e (after construct_kind.Statement left loc k))
-  next_stmt left (For loc init e f x) k = next_stmt (heed left (stmt_place x)) x (next_maybe left f (next_maybe left e (next_init left init (after construct_kind.Statement left loc k))))
-  next_stmt left (ForIn loc target e x) k = next_stmt (heed left (stmt_place x)) x (next_expr (left_in left e) false e (next_target left target (after construct_kind.Statement left loc k)))
-  next_stmt left (ForOf loc target e x) k = next_stmt (heed left (stmt_place x)) x (next_expr (left_in left e) false e (next_target left target (after construct_kind.Statement left loc k)))
-  next_stmt left (Continue loc name) k = after construct_kind.Statement left loc k
-  next_stmt left (Break loc name) k = after construct_kind.Statement left loc k
-  next_stmt left (Return loc e) k = next_maybe left e (after construct_kind.Statement left loc k)
-  next_stmt left (Switch loc e cases) k = next_cases left cases (next_expr (left_in left e) false e (after construct_kind.Branch left loc (after construct_kind.Statement left loc k)))
-  next_stmt left (Labelled loc name x) k = next_stmt (heed left (stmt_place x)) x (after construct_kind.Statement left loc k)
-  next_stmt left (Throw loc e) k = next_expr (left_in left e) false e (after construct_kind.Statement left loc k)
-  next_stmt left (TryCatch loc xs catch) k = next_catch left catch (next_stmts left xs (after construct_kind.Statement left loc k))
-  next_stmt left (TryFinally loc xs ys) k = next_stmts left ys (next_stmts left xs (after construct_kind.Statement left loc k))
-  next_stmt left (TryCatchFinally loc xs catch ys) k = next_stmts left ys (next_catch left catch (next_stmts left xs (after construct_kind.Statement left loc k)))
-  next_stmt left (Debugger loc) k = after construct_kind.Statement left loc k
-  next_stmt left (FunctionDeclaration loc name function) k = next_function left (function_place loc (Some name) (body_place function)) function k
-  next_stmt left (EnteredStmt m x) k = next_stmt left x k
+  next_stmt left (tree.DoWhile loc x e) k = next_expr (left_in left e) false e (next_stmt (heed left (stmt_place x)) x (after construct_kind.Statement left loc k))
+  next_stmt left (tree.While loc e x) k = next_stmt (heed left (stmt_place x)) x (next_expr (left_in left e) false e (after construct_kind.Statement left loc k))
+  next_stmt left (tree.For loc init e f x) k = next_stmt (heed left (stmt_place x)) x (next_maybe left f (next_maybe left e (next_init left init (after construct_kind.Statement left loc k))))
+  next_stmt left (tree.ForIn loc target e x) k = next_stmt (heed left (stmt_place x)) x (next_expr (left_in left e) false e (next_target left target (after construct_kind.Statement left loc k)))
+  next_stmt left (tree.ForOf loc target e x) k = next_stmt (heed left (stmt_place x)) x (next_expr (left_in left e) false e (next_target left target (after construct_kind.Statement left loc k)))
+  next_stmt left (tree.Continue loc name) k = after construct_kind.Statement left loc k
+  next_stmt left (tree.Break loc name) k = after construct_kind.Statement left loc k
+  next_stmt left (tree.Return loc e) k = next_maybe left e (after construct_kind.Statement left loc k)
+  next_stmt left (tree.Switch loc e cases) k = next_cases left cases (next_expr (left_in left e) false e (after construct_kind.Branch left loc (after construct_kind.Statement left loc k)))
+  next_stmt left (tree.Labelled loc name x) k = next_stmt (heed left (stmt_place x)) x (after construct_kind.Statement left loc k)
+  next_stmt left (tree.Throw loc e) k = next_expr (left_in left e) false e (after construct_kind.Statement left loc k)
+  next_stmt left (tree.TryCatch loc xs catch) k = next_catch left catch (next_stmts left xs (after construct_kind.Statement left loc k))
+  next_stmt left (tree.TryFinally loc xs ys) k = next_stmts left ys (next_stmts left xs (after construct_kind.Statement left loc k))
+  next_stmt left (tree.TryCatchFinally loc xs catch ys) k = next_stmts left ys (next_catch left catch (next_stmts left xs (after construct_kind.Statement left loc k)))
+  next_stmt left (tree.Debugger loc) k = after construct_kind.Statement left loc k
+  next_stmt left (tree.FunctionDeclaration loc name function) k = next_function left (function_place loc (Some name) (body_place function)) function k
+  next_stmt left (tree.EnteredStmt m x) k = next_stmt left x k
 
   pub next_arm : Heed → MaybeStmt → Counts → Counts
-  next_arm left none_stmt k = k
-  next_arm left (some_stmt x) k = next_stmt left x k
-  next_arm left (entered_none m) k = k
+  next_arm left tree.none_stmt k = k
+  next_arm left (tree.some_stmt x) k = next_stmt left x k
+  next_arm left (tree.entered_none m) k = k
 
   pub next_declarators : Heed → Declarators → Counts → Counts
-  next_declarators left no_declarator k = k
-  next_declarators left (more_declarator x xs) k = next_declarators left xs (next_declarator (heed left (declarator_place x)) x k)
+  next_declarators left tree.no_declarator k = k
+  next_declarators left (tree.more_declarator x xs) k = next_declarators left xs (next_declarator (heed left (declarator_place x)) x k)
 
   pub next_declarator : Heed → Declarator → Counts → Counts
-  next_declarator left (MakeDeclarator loc pattern none_expr) k = k
-  next_declarator left (MakeDeclarator loc pattern (some_expr e)) k = next_expr (left_in left e) false e (after construct_kind.Statement (left_in left e) (bare_place e) k)
+  next_declarator left (tree.MakeDeclarator loc pattern tree.none_expr) k = k
+  next_declarator left (tree.MakeDeclarator loc pattern (tree.some_expr e)) k = next_expr (left_in left e) false e (after construct_kind.Statement (left_in left e) (bare_place e) k)
 
   pub next_init : Heed → ForInit → Counts → Counts
-  next_init left NoInit k = k
-  next_init left (InitDeclaration kind xs) k = next_declarators left xs k
-  next_init left (InitExpression e) k = next_expr (left_in left e) false e k
+  next_init left tree.NoInit k = k
+  next_init left (tree.InitDeclaration kind xs) k = next_declarators left xs k
+  next_init left (tree.InitExpression e) k = next_expr (left_in left e) false e k
 
   pub next_target : Heed → ForTarget → Counts → Counts
-  next_target left (TargetDeclaration kind pattern) k = k
-  next_target left (TargetExpression e) k = next_expr (left_in left e) false e k
+  next_target left (tree.TargetDeclaration kind pattern) k = k
+  next_target left (tree.TargetExpression e) k = next_expr (left_in left e) false e k
 
   pub next_cases : Heed → Cases → Counts → Counts
-  next_cases left no_case k = k
-  next_cases left (more_case x xs) k = next_cases left xs (next_case (heed left (case_place x)) x k)
+  next_cases left tree.no_case k = k
+  next_cases left (tree.more_case x xs) k = next_cases left xs (next_case (heed left (case_place x)) x k)
 
   pub past_cases : Heed → ℕ → Cases → ℕ
-  past_cases left path no_case = path
-  past_cases left path (more_case x xs) = past_cases left (past (heed left (case_place x)) path) xs
+  past_cases left path tree.no_case = path
+  past_cases left path (tree.more_case x xs) = past_cases left (past (heed left (case_place x)) path) xs
 
   pub next_case : Heed → Case → Counts → Counts
-  next_case left (MakeCase loc e xs) k = next_stmts left xs (next_maybe left e k)
-  next_case left (EnteredCase m x) k = next_case left x k
+  next_case left (tree.MakeCase loc e xs) k = next_stmts left xs (next_maybe left e k)
+  next_case left (tree.EnteredCase m x) k = next_case left x k
 
   pub next_catch : Heed → Catch → Counts → Counts
-  next_catch left (MakeCatch pattern xs) k = next_stmts left xs k
+  next_catch left (tree.MakeCatch pattern xs) k = next_stmts left xs k
 
 -- of a function after its own number
 abbrev pub next_inside : Heed → Function → Counts → Counts
-next_inside left (MakeFunction i params body) k = next_body left body (next_params left params k)
+next_inside left (tree.MakeFunction i params body) k = next_body left body (next_params left params k)
 
 -- ---- the marks before a part
 
@@ -234,65 +212,65 @@ hoisted_marks true true ms = ms
 hoisted_marks hoists anonymous ms = []
 
 abbrev pub hoisted_of : Bool → Heed → Declarator → Counts → List Mark
-hoisted_of hoists left (MakeDeclarator loc pattern none_expr) k = []
-hoisted_of hoists left (MakeDeclarator loc pattern (some_expr e)) k = hoisted_marks hoists (is_anonymous e) (value_marks left e k)
+hoisted_of hoists left (tree.MakeDeclarator loc pattern tree.none_expr) k = []
+hoisted_of hoists left (tree.MakeDeclarator loc pattern (tree.some_expr e)) k = hoisted_marks hoists (is_anonymous e) (value_marks left e k)
 
 abbrev pub hoisted : Bool → Heed → Declarators → Counts → List Mark
-hoisted home left (more_declarator x xs) k = hoisted_of home (heed left (declarator_place x)) x k
-hoisted home left no_declarator k = []
+hoisted home left (tree.more_declarator x xs) k = hoisted_of home (heed left (declarator_place x)) x k
+hoisted home left tree.no_declarator k = []
 
 -- those before a statement that stands in a list, or is a body: `home` says whether a declaration there stands directly in a file, a
 -- function's body or a block of the source
 abbrev pub marks_before : Bool → Heed → Stmt → Counts → List Mark
-marks_before home left (Directive loc spelled) k = []
-marks_before home left (Block loc xs) k = []
-marks_before home left (VariableDeclaration loc kind xs) k = hoisted home left xs k
-marks_before home left (Empty loc) k = []
-marks_before home left (Expression loc e) k = own_marks construct_kind.Statement left loc k
-marks_before home left (If loc e x y) k = own_marks construct_kind.Statement left loc k
-marks_before home left (DoWhile loc x e) k = own_marks construct_kind.Statement left loc k
-marks_before home left (While loc e x) k = own_marks construct_kind.Statement left loc k
-marks_before home left (For loc init e f x) k = own_marks construct_kind.Statement left loc k
-marks_before home left (ForIn loc target e x) k = own_marks construct_kind.Statement left loc k
-marks_before home left (ForOf loc target e x) k = own_marks construct_kind.Statement left loc k
-marks_before home left (Continue loc name) k = own_marks construct_kind.Statement left loc k
-marks_before home left (Break loc name) k = own_marks construct_kind.Statement left loc k
-marks_before home left (Return loc e) k = own_marks construct_kind.Statement left loc k
-marks_before home left (Switch loc e cases) k = own_marks construct_kind.Statement left loc k
-marks_before home left (Labelled loc name x) k = own_marks construct_kind.Statement left loc k ++ marks_before false (heed left (stmt_place x)) x (after construct_kind.Statement left loc k)
-marks_before home left (Throw loc e) k = own_marks construct_kind.Statement left loc k
-marks_before home left (TryCatch loc xs catch) k = own_marks construct_kind.Statement left loc k
-marks_before home left (TryFinally loc xs ys) k = own_marks construct_kind.Statement left loc k
-marks_before home left (TryCatchFinally loc xs catch ys) k = own_marks construct_kind.Statement left loc k
-marks_before home left (Debugger loc) k = own_marks construct_kind.Statement left loc k
-marks_before home left (FunctionDeclaration loc name function) k = []
-marks_before home left (EnteredStmt m x) k = marks_before home left x k
+marks_before home left (tree.Directive loc spelled) k = []
+marks_before home left (tree.Block loc xs) k = []
+marks_before home left (tree.VariableDeclaration loc kind xs) k = hoisted home left xs k
+marks_before home left (tree.Empty loc) k = []
+marks_before home left (tree.Expression loc e) k = own_marks construct_kind.Statement left loc k
+marks_before home left (tree.If loc e x y) k = own_marks construct_kind.Statement left loc k
+marks_before home left (tree.DoWhile loc x e) k = own_marks construct_kind.Statement left loc k
+marks_before home left (tree.While loc e x) k = own_marks construct_kind.Statement left loc k
+marks_before home left (tree.For loc init e f x) k = own_marks construct_kind.Statement left loc k
+marks_before home left (tree.ForIn loc target e x) k = own_marks construct_kind.Statement left loc k
+marks_before home left (tree.ForOf loc target e x) k = own_marks construct_kind.Statement left loc k
+marks_before home left (tree.Continue loc name) k = own_marks construct_kind.Statement left loc k
+marks_before home left (tree.Break loc name) k = own_marks construct_kind.Statement left loc k
+marks_before home left (tree.Return loc e) k = own_marks construct_kind.Statement left loc k
+marks_before home left (tree.Switch loc e cases) k = own_marks construct_kind.Statement left loc k
+marks_before home left (tree.Labelled loc name x) k = own_marks construct_kind.Statement left loc k ++ marks_before false (heed left (stmt_place x)) x (after construct_kind.Statement left loc k)
+marks_before home left (tree.Throw loc e) k = own_marks construct_kind.Statement left loc k
+marks_before home left (tree.TryCatch loc xs catch) k = own_marks construct_kind.Statement left loc k
+marks_before home left (tree.TryFinally loc xs ys) k = own_marks construct_kind.Statement left loc k
+marks_before home left (tree.TryCatchFinally loc xs catch ys) k = own_marks construct_kind.Statement left loc k
+marks_before home left (tree.Debugger loc) k = own_marks construct_kind.Statement left loc k
+marks_before home left (tree.FunctionDeclaration loc name function) k = []
+marks_before home left (tree.EnteredStmt m x) k = marks_before home left x k
 
 -- a statement is counted itself, and not what stands in it
 abbrev pub is_counted : Stmt → Bool
-is_counted (Directive loc spelled) = false
-is_counted (Block loc xs) = false
-is_counted (VariableDeclaration loc kind xs) = false
-is_counted (Empty loc) = false
-is_counted (Labelled loc name x) = false
-is_counted (FunctionDeclaration loc name function) = false
-is_counted (EnteredStmt m x) = is_counted x
+is_counted (tree.Directive loc spelled) = false
+is_counted (tree.Block loc xs) = false
+is_counted (tree.VariableDeclaration loc kind xs) = false
+is_counted (tree.Empty loc) = false
+is_counted (tree.Labelled loc name x) = false
+is_counted (tree.FunctionDeclaration loc name function) = false
+is_counted (tree.EnteredStmt m x) = is_counted x
 is_counted x = true
 
 abbrev pub is_branching : Stmt → Bool
-is_branching (If loc e x y) = true
-is_branching (Switch loc e cases) = true
-is_branching (TryCatch loc xs catch) = true
-is_branching (TryFinally loc xs ys) = true
-is_branching (TryCatchFinally loc xs catch ys) = true
-is_branching (EnteredStmt m x) = is_branching x
+is_branching (tree.If loc e x y) = true
+is_branching (tree.Switch loc e cases) = true
+is_branching (tree.TryCatch loc xs catch) = true
+is_branching (tree.TryFinally loc xs ys) = true
+is_branching (tree.TryCatchFinally loc xs catch ys) = true
+is_branching (tree.EnteredStmt m x) = is_branching x
 is_branching x = false
 
 -- those of an arm of an `if`: of its path, and its own
 abbrev pub arm_before : Heed → MaybeStmt → Counts → List Mark
-arm_before left none_stmt k = []
-arm_before left (some_stmt x) k = marks_before false left x k
-arm_before left (entered_none m) k = []
+arm_before left tree.none_stmt k = []
+arm_before left (tree.some_stmt x) k = marks_before false left x k
+arm_before left (tree.entered_none m) k = []
 
 -- ---- the forms
 
@@ -307,139 +285,139 @@ is_among (Among branch path) = true
 
 -- an expression is no chain, and doesn't stand in parentheses
 abbrev pub is_leaf : Expr → Bool
-is_leaf (Logical _ _ _ _) = false
-is_leaf (Parenthesized _ _) = false
-is_leaf (Entered m e) = is_leaf e
+is_leaf (tree.Logical _ _ _ _) = false
+is_leaf (tree.Parenthesized _ _) = false
+is_leaf (tree.Entered m e) = is_leaf e
 is_leaf e = true
 
 module _ (counter : Mark → Expr) where
   -- an operand is a leaf, unless it is a chain or stands in parentheses
   abbrev pub leaf : Heed → Operand → Expr → Expr → Expr
   leaf left Alone e made = made
-  leaf left (Among branch path) (Logical _ _ _ _) made = made
-  leaf left (Among branch path) (Parenthesized _ _) made = made
-  leaf left (Among branch path) (Entered m e) made = leaf left (Among branch path) e made
+  leaf left (Among branch path) (tree.Logical _ _ _ _) made = made
+  leaf left (Among branch path) (tree.Parenthesized _ _) made = made
+  leaf left (Among branch path) (tree.Entered m e) made = leaf left (Among branch path) e made
   leaf left (Among branch path) e made = counted counter (path_marks left branch path) made
 
   abbrev mutual
     pub made_expr : Heed → Operand → Expr → Counts → Expr
-    made_expr left chain (IdentifierReference loc text) k = IdentifierReference loc text
-    made_expr left chain (This loc) k = This loc
-    made_expr left chain (NullLiteral loc) k = NullLiteral loc
-    made_expr left chain (BooleanLiteral loc b) k = BooleanLiteral loc b
-    made_expr left chain (NumericLiteral loc text) k = NumericLiteral loc text
-    made_expr left chain (StringLiteral loc spelled) k = StringLiteral loc spelled
-    made_expr left chain (ArrayLiteral loc es) k = ArrayLiteral loc (made_exprs left es k)
-    made_expr left chain (ObjectLiteral loc properties) k = ObjectLiteral loc (made_properties left properties k)
-    made_expr left chain (FunctionExpression loc name function) k = FunctionExpression loc name (made_function left (function_place loc name (body_place function)) function k)
-    made_expr left chain (ArrowFunction loc i params body) k =
+    made_expr left chain (tree.IdentifierReference loc text) k = tree.IdentifierReference loc text
+    made_expr left chain (tree.This loc) k = tree.This loc
+    made_expr left chain (tree.NullLiteral loc) k = tree.NullLiteral loc
+    made_expr left chain (tree.BooleanLiteral loc b) k = tree.BooleanLiteral loc b
+    made_expr left chain (tree.NumericLiteral loc text) k = tree.NumericLiteral loc text
+    made_expr left chain (tree.StringLiteral loc spelled) k = tree.StringLiteral loc spelled
+    made_expr left chain (tree.ArrayLiteral loc es) k = tree.ArrayLiteral loc (made_exprs left es k)
+    made_expr left chain (tree.ObjectLiteral loc properties) k = tree.ObjectLiteral loc (made_properties left properties k)
+    made_expr left chain (tree.FunctionExpression loc name function) k = tree.FunctionExpression loc name (made_function left (function_place loc name (body_place function)) function k)
+    made_expr left chain (tree.ArrowFunction loc i params body) k =
         let j = after construct_kind.Function left (function_place loc None (concise_place body)) k in
-        ArrowFunction loc 0 (made_params left params j) (made_concise left (counts counter (own_marks construct_kind.Function left (function_place loc None (concise_place body)) k)) body (next_params left params j))
-    made_expr left chain (RegularExpressionLiteral loc text flags) k = RegularExpressionLiteral loc text flags
-    made_expr left chain (TemplateLiteral loc spelled parts) k = TemplateLiteral loc spelled (made_parts left parts k)
-    made_expr left chain (Parenthesized loc e) k = Parenthesized loc (leaf left chain e (made_expr left chain e k))
-    made_expr left chain (NamedMember loc e text) k = NamedMember loc (made_expr (left_in left e) Alone e k) text
-    made_expr left chain (ComputedMember loc e f) k = ComputedMember loc (made_expr (left_in left e) Alone e k) (made_expr (left_in left f) Alone f (next_expr (left_in left e) false e k))
-    made_expr left chain (New loc e es) k = New loc (made_expr (left_in left e) Alone e k) (made_exprs left es (next_expr (left_in left e) false e k))
-    made_expr left chain (Call loc e es) k = Call loc (made_expr (left_in left e) Alone e k) (made_exprs left es (next_expr (left_in left e) false e k))
-    made_expr left chain (PostfixUpdate loc operator e) k = PostfixUpdate loc operator (made_expr (left_in left e) Alone e k)
-    made_expr left chain (PrefixUpdate loc operator e) k = PrefixUpdate loc operator (made_expr (left_in left e) Alone e k)
-    made_expr left chain (Unary loc operator e) k = Unary loc operator (made_expr (left_in left e) Alone e k)
-    made_expr left chain (Binary loc operator e f) k = Binary loc operator (made_expr (left_in left e) Alone e k) (made_expr (left_in left f) Alone f (next_expr (left_in left e) false e k))
-    made_expr left (Among b path) (Logical loc operator e f) k = Logical loc operator
+        tree.ArrowFunction loc 0 (made_params left params j) (made_concise left (counts counter (own_marks construct_kind.Function left (function_place loc None (concise_place body)) k)) body (next_params left params j))
+    made_expr left chain (tree.RegularExpressionLiteral loc text flags) k = tree.RegularExpressionLiteral loc text flags
+    made_expr left chain (tree.TemplateLiteral loc spelled parts) k = tree.TemplateLiteral loc spelled (made_parts left parts k)
+    made_expr left chain (tree.Parenthesized loc e) k = tree.Parenthesized loc (leaf left chain e (made_expr left chain e k))
+    made_expr left chain (tree.NamedMember loc e text) k = tree.NamedMember loc (made_expr (left_in left e) Alone e k) text
+    made_expr left chain (tree.ComputedMember loc e f) k = tree.ComputedMember loc (made_expr (left_in left e) Alone e k) (made_expr (left_in left f) Alone f (next_expr (left_in left e) false e k))
+    made_expr left chain (tree.New loc e es) k = tree.New loc (made_expr (left_in left e) Alone e k) (made_exprs left es (next_expr (left_in left e) false e k))
+    made_expr left chain (tree.Call loc e es) k = tree.Call loc (made_expr (left_in left e) Alone e k) (made_exprs left es (next_expr (left_in left e) false e k))
+    made_expr left chain (tree.PostfixUpdate loc operator e) k = tree.PostfixUpdate loc operator (made_expr (left_in left e) Alone e k)
+    made_expr left chain (tree.PrefixUpdate loc operator e) k = tree.PrefixUpdate loc operator (made_expr (left_in left e) Alone e k)
+    made_expr left chain (tree.Unary loc operator e) k = tree.Unary loc operator (made_expr (left_in left e) Alone e k)
+    made_expr left chain (tree.Binary loc operator e f) k = tree.Binary loc operator (made_expr (left_in left e) Alone e k) (made_expr (left_in left f) Alone f (next_expr (left_in left e) false e k))
+    made_expr left (Among b path) (tree.Logical loc operator e f) k = tree.Logical loc operator
         (leaf (left_in left e) (Among b path) e (made_expr (left_in left e) (Among b path) e k))
         (leaf (left_in left f) (Among b (path + length (leaf_paths (left_in left e) e))) f
         (made_expr (left_in left f) (Among b (path + length (leaf_paths (left_in left e) e))) f (next_expr (left_in left e) true e k)))
-    made_expr left Alone (Logical loc operator e f) k =
+    made_expr left Alone (tree.Logical loc operator e f) k =
         let b = number construct_kind.Branch left loc k in
         let j = after construct_kind.Branch left loc k in
-        Logical loc operator
+        tree.Logical loc operator
         (leaf (left_in left e) (Among b 0) e (made_expr (left_in left e) (Among b 0) e j))
         (leaf (left_in left f) (Among b (0 + length (leaf_paths (left_in left e) e))) f
         (made_expr (left_in left f) (Among b (0 + length (leaf_paths (left_in left e) e))) f (next_expr (left_in left e) true e j)))
-    made_expr left chain (Conditional loc e f g) k =
+    made_expr left chain (tree.Conditional loc e f g) k =
         let b = number construct_kind.Branch left loc k in
         let j = next_expr (left_in left e) false e (after construct_kind.Branch left loc k) in
-        Conditional loc (made_expr (left_in left e) Alone e (after construct_kind.Branch left loc k))
+        tree.Conditional loc (made_expr (left_in left e) Alone e (after construct_kind.Branch left loc k))
         (counted counter (path_marks (left_in left f) b 0) (made_expr (left_in left f) Alone f j))
         (counted counter (path_marks (left_in left g) b (past (left_in left f) 0)) (made_expr (left_in left g) Alone g (next_expr (left_in left f) false f j)))
-    made_expr left chain (Assignment loc operator e f) k = Assignment loc operator (made_expr (left_in left e) Alone e k) (made_expr (left_in left f) Alone f (next_expr (left_in left e) false e k))
-    made_expr left chain (Comma loc e f) k = Comma loc (made_expr (left_in left e) Alone e k) (made_expr (left_in left f) Alone f (next_expr (left_in left e) false e k))
-    made_expr left chain (Entered m e) k = made_expr left chain e k
+    made_expr left chain (tree.Assignment loc operator e f) k = tree.Assignment loc operator (made_expr (left_in left e) Alone e k) (made_expr (left_in left f) Alone f (next_expr (left_in left e) false e k))
+    made_expr left chain (tree.Comma loc e f) k = tree.Comma loc (made_expr (left_in left e) Alone e k) (made_expr (left_in left f) Alone f (next_expr (left_in left e) false e k))
+    made_expr left chain (tree.Entered m e) k = made_expr left chain e k
 
     pub made_exprs : Heed → Exprs → Counts → Exprs
-    made_exprs left no_expr k = no_expr
-    made_exprs left (more_expr e es) k = more_expr (made_expr (left_in left e) Alone e k) (made_exprs left es (next_expr (left_in left e) false e k))
+    made_exprs left tree.no_expr k = tree.no_expr
+    made_exprs left (tree.more_expr e es) k = tree.more_expr (made_expr (left_in left e) Alone e k) (made_exprs left es (next_expr (left_in left e) false e k))
 
     pub made_parts : Heed → TemplateParts → Counts → TemplateParts
-    made_parts left no_template_part k = no_template_part
-    made_parts left (more_template_part x xs) k = more_template_part (made_part left x k) (made_parts left xs (next_part left x k))
+    made_parts left tree.no_template_part k = tree.no_template_part
+    made_parts left (tree.more_template_part x xs) k = tree.more_template_part (made_part left x k) (made_parts left xs (next_part left x k))
 
     pub made_part : Heed → TemplatePart → Counts → TemplatePart
-    made_part left (MakeTemplatePart e spelled) k = MakeTemplatePart (made_expr (left_in left e) Alone e k) spelled
+    made_part left (tree.MakeTemplatePart e spelled) k = tree.MakeTemplatePart (made_expr (left_in left e) Alone e k) spelled
 
     pub made_properties : Heed → Properties → Counts → Properties
-    made_properties left no_property k = no_property
-    made_properties left (more_property x xs) k = more_property (made_property (heed left (property_place x)) x k) (made_properties left xs (next_property (heed left (property_place x)) x k))
+    made_properties left tree.no_property k = tree.no_property
+    made_properties left (tree.more_property x xs) k = tree.more_property (made_property (heed left (property_place x)) x k) (made_properties left xs (next_property (heed left (property_place x)) x k))
 
     pub made_property : Heed → Property → Counts → Property
-    made_property left (Shorthand loc text) k = Shorthand loc text
-    made_property left (KeyValue loc key e) k = KeyValue loc (made_key left key k) (made_expr (left_in left e) Alone e (next_key left key k))
-    made_property left (Method loc key (MakeFunction i params body)) k =
+    made_property left (tree.Shorthand loc text) k = tree.Shorthand loc text
+    made_property left (tree.KeyValue loc key e) k = tree.KeyValue loc (made_key left key k) (made_expr (left_in left e) Alone e (next_key left key k))
+    made_property left (tree.Method loc key (tree.MakeFunction i params body)) k =
         let place = function_place loc None (braced_place body) in
         let j = after construct_kind.Function left place k in
-        Method loc (made_key left key j) (MakeFunction 0 (made_params left params (next_key left key j))
+        tree.Method loc (made_key left key j) (tree.MakeFunction 0 (made_params left params (next_key left key j))
         (made_body left (counts counter (own_marks construct_kind.Function left place k)) body (next_params left params (next_key left key j))))
 
     pub made_key : Heed → PropertyKey → Counts → PropertyKey
-    made_key left (NameKey text) k = NameKey text
-    made_key left (StringKey spelled) k = StringKey spelled
-    made_key left (NumberKey text) k = NumberKey text
-    made_key left (ComputedKey e) k = ComputedKey (made_expr (left_in left e) Alone e k)
+    made_key left (tree.NameKey text) k = tree.NameKey text
+    made_key left (tree.StringKey spelled) k = tree.StringKey spelled
+    made_key left (tree.NumberKey text) k = tree.NumberKey text
+    made_key left (tree.ComputedKey e) k = tree.ComputedKey (made_expr (left_in left e) Alone e k)
 
     -- a function whose construct stands here
     pub made_function : Heed → Option Loc → Function → Counts → Function
-    made_function left place (MakeFunction i params body) k =
+    made_function left place (tree.MakeFunction i params body) k =
         let j = after construct_kind.Function left place k in
-        MakeFunction 0 (made_params left params j) (made_body left (counts counter (own_marks construct_kind.Function left place k)) body (next_params left params j))
+        tree.MakeFunction 0 (made_params left params j) (made_body left (counts counter (own_marks construct_kind.Function left place k)) body (next_params left params j))
 
     -- a function's body, with the function's counter
     pub made_body : Heed → Stmts → FunctionBody → Counts → FunctionBody
-    made_body left zs (MakeFunctionBody loc xs) k = MakeFunctionBody loc (after_directives zs (made_stmts true left xs k))
-    made_body left zs (EnteredBody m body) k = made_body left zs body k
+    made_body left zs (tree.MakeFunctionBody loc xs) k = tree.MakeFunctionBody loc (after_directives zs (made_stmts true left xs k))
+    made_body left zs (tree.EnteredBody m body) k = made_body left zs body k
 
     pub made_concise : Heed → Stmts → ConciseBody → Counts → ConciseBody
-    made_concise left zs (ExpressionBody e) k = concise_of (joined zs (counts counter (value_marks left e k))) (made_expr (left_in left e) Alone e (after construct_kind.Statement (left_in left e) (bare_place e) k))
-    made_concise left zs (BlockBody body) k = BlockBody (made_body left zs body k)
+    made_concise left zs (tree.ExpressionBody e) k = concise_of (joined zs (counts counter (value_marks left e k))) (made_expr (left_in left e) Alone e (after construct_kind.Statement (left_in left e) (bare_place e) k))
+    made_concise left zs (tree.BlockBody body) k = tree.BlockBody (made_body left zs body k)
 
     pub made_params : Heed → Params → Counts → Params
-    made_params left no_param k = no_param
-    made_params left (more_param x xs) k = more_param (made_param (heed left (param_place x)) x k) (made_params left xs (next_param (heed left (param_place x)) x k))
+    made_params left tree.no_param k = tree.no_param
+    made_params left (tree.more_param x xs) k = tree.more_param (made_param (heed left (param_place x)) x k) (made_params left xs (next_param (heed left (param_place x)) x k))
 
     pub made_param : Heed → Param → Counts → Param
-    made_param left (MakeParam loc pattern none_expr) k = MakeParam loc pattern none_expr
-    made_param left (MakeParam loc pattern (some_expr e)) k = MakeParam loc pattern (some_expr
+    made_param left (tree.MakeParam loc pattern tree.none_expr) k = tree.MakeParam loc pattern tree.none_expr
+    made_param left (tree.MakeParam loc pattern (tree.some_expr e)) k = tree.MakeParam loc pattern (tree.some_expr
         (held counter (is_anonymous e) (bound_name pattern) (path_marks (left_in left e) (number construct_kind.Branch left loc k) 0) (made_expr (left_in left e) Alone e (after construct_kind.Branch left loc k))))
 
     pub made_maybe : Heed → MaybeExpr → Counts → MaybeExpr
-    made_maybe left none_expr k = none_expr
-    made_maybe left (some_expr e) k = some_expr (made_expr (left_in left e) Alone e k)
+    made_maybe left tree.none_expr k = tree.none_expr
+    made_maybe left (tree.some_expr e) k = tree.some_expr (made_expr (left_in left e) Alone e k)
 
     -- a list of statements
     pub made_stmts : Bool → Heed → Stmts → Counts → Stmts
-    made_stmts home left no_stmt k = no_stmt
-    made_stmts home left (more_stmt x xs) k =
+    made_stmts home left tree.no_stmt k = tree.no_stmt
+    made_stmts home left (tree.more_stmt x xs) k =
         let inner = heed left (stmt_place x) in
-        joined (counts counter (marks_before home inner x k)) (more_stmt (made_stmt home inner x k) (made_stmts home left xs (next_stmt inner x k)))
+        joined (counts counter (marks_before home inner x k)) (tree.more_stmt (made_stmt home inner x k) (made_stmts home left xs (next_stmt inner x k)))
 
     -- a statement without the counters before it
     pub made_stmt : Bool → Heed → Stmt → Counts → Stmt
-    made_stmt home left (Directive loc spelled) k = Directive loc spelled
-    made_stmt home left (Block loc xs) k = Block loc (made_stmts true left xs k)
-    made_stmt home left (VariableDeclaration loc kind xs) k = VariableDeclaration loc kind (made_declarators home left xs k)
-    made_stmt home left (Empty loc) k = Empty loc
-    made_stmt home left (Expression loc e) k = Expression loc (made_expr (left_in left e) Alone e (after construct_kind.Statement left loc k))
-    made_stmt home left (If loc e x y) k =
+    made_stmt home left (tree.Directive loc spelled) k = tree.Directive loc spelled
+    made_stmt home left (tree.Block loc xs) k = tree.Block loc (made_stmts true left xs k)
+    made_stmt home left (tree.VariableDeclaration loc kind xs) k = tree.VariableDeclaration loc kind (made_declarators home left xs k)
+    made_stmt home left (tree.Empty loc) k = tree.Empty loc
+    made_stmt home left (tree.Expression loc e) k = tree.Expression loc (made_expr (left_in left e) Alone e (after construct_kind.Statement left loc k))
+    made_stmt home left (tree.If loc e x y) k =
         let b = number construct_kind.Branch left loc (after construct_kind.Statement left loc k) in
         let h = after construct_kind.Branch left loc (after construct_kind.Statement left loc k) in
         let i = next_expr (left_in left e) false e h in
@@ -448,93 +426,93 @@ module _ (counter : Mark → Expr) where
         let j = next_stmt holds x i in
         let xs = counts counter (path_marks holds b 0 ++ marks_before false holds x i) in
         let ys = counts counter (path_marks fails b (past holds 0) ++ arm_before fails y j) in
-        If loc (made_expr (left_in left e) Alone e h) (arm_of (are_some xs || are_some ys) xs (made_stmt false holds x i)) (else_of (are_some xs || are_some ys) ys (bare_arm fails y j))
-    made_stmt home left (DoWhile loc x e) k =
+        tree.If loc (made_expr (left_in left e) Alone e h) (arm_of (are_some xs || are_some ys) xs (made_stmt false holds x i)) (else_of (are_some xs || are_some ys) ys (bare_arm fails y j))
+    made_stmt home left (tree.DoWhile loc x e) k =
         let j = after construct_kind.Statement left loc k in
-        DoWhile loc (block_unless (counts counter (marks_before false (heed left (stmt_place x)) x j)) (made_stmt false (heed left (stmt_place x)) x j)) (made_expr (left_in left e) Alone e (next_stmt (heed left (stmt_place x)) x j))
-    made_stmt home left (While loc e x) k =
+        tree.DoWhile loc (block_unless (counts counter (marks_before false (heed left (stmt_place x)) x j)) (made_stmt false (heed left (stmt_place x)) x j)) (made_expr (left_in left e) Alone e (next_stmt (heed left (stmt_place x)) x j))
+    made_stmt home left (tree.While loc e x) k =
         let j = after construct_kind.Statement left loc k in
-        While loc (made_expr (left_in left e) Alone e j) (block_unless (counts counter (marks_before false (heed left (stmt_place x)) x (next_expr (left_in left e) false e j))) (made_stmt false (heed left (stmt_place x)) x (next_expr (left_in left e) false e j)))
-    made_stmt home left (For loc init e f x) k =
+        tree.While loc (made_expr (left_in left e) Alone e j) (block_unless (counts counter (marks_before false (heed left (stmt_place x)) x (next_expr (left_in left e) false e j))) (made_stmt false (heed left (stmt_place x)) x (next_expr (left_in left e) false e j)))
+    made_stmt home left (tree.For loc init e f x) k =
         let h = after construct_kind.Statement left loc k in
         let i = next_init left init h in
         let j = next_maybe left e i in
-        For loc (made_init left init h) (made_maybe left e i) (made_maybe left f j) (block_unless (counts counter (marks_before false (heed left (stmt_place x)) x (next_maybe left f j))) (made_stmt false (heed left (stmt_place x)) x (next_maybe left f j)))
-    made_stmt home left (ForIn loc target e x) k =
+        tree.For loc (made_init left init h) (made_maybe left e i) (made_maybe left f j) (block_unless (counts counter (marks_before false (heed left (stmt_place x)) x (next_maybe left f j))) (made_stmt false (heed left (stmt_place x)) x (next_maybe left f j)))
+    made_stmt home left (tree.ForIn loc target e x) k =
         let i = after construct_kind.Statement left loc k in
         let j = next_target left target i in
-        ForIn loc (made_target left target i) (made_expr (left_in left e) Alone e j) (block_unless (counts counter (marks_before false (heed left (stmt_place x)) x (next_expr (left_in left e) false e j))) (made_stmt false (heed left (stmt_place x)) x (next_expr (left_in left e) false e j)))
-    made_stmt home left (ForOf loc target e x) k =
+        tree.ForIn loc (made_target left target i) (made_expr (left_in left e) Alone e j) (block_unless (counts counter (marks_before false (heed left (stmt_place x)) x (next_expr (left_in left e) false e j))) (made_stmt false (heed left (stmt_place x)) x (next_expr (left_in left e) false e j)))
+    made_stmt home left (tree.ForOf loc target e x) k =
         let i = after construct_kind.Statement left loc k in
         let j = next_target left target i in
-        ForOf loc (made_target left target i) (made_expr (left_in left e) Alone e j) (block_unless (counts counter (marks_before false (heed left (stmt_place x)) x (next_expr (left_in left e) false e j))) (made_stmt false (heed left (stmt_place x)) x (next_expr (left_in left e) false e j)))
-    made_stmt home left (Continue loc name) k = Continue loc name
-    made_stmt home left (Break loc name) k = Break loc name
-    made_stmt home left (Return loc e) k = Return loc (made_maybe left e (after construct_kind.Statement left loc k))
-    made_stmt home left (Switch loc e cases) k =
+        tree.ForOf loc (made_target left target i) (made_expr (left_in left e) Alone e j) (block_unless (counts counter (marks_before false (heed left (stmt_place x)) x (next_expr (left_in left e) false e j))) (made_stmt false (heed left (stmt_place x)) x (next_expr (left_in left e) false e j)))
+    made_stmt home left (tree.Continue loc name) k = tree.Continue loc name
+    made_stmt home left (tree.Break loc name) k = tree.Break loc name
+    made_stmt home left (tree.Return loc e) k = tree.Return loc (made_maybe left e (after construct_kind.Statement left loc k))
+    made_stmt home left (tree.Switch loc e cases) k =
         let i = after construct_kind.Statement left loc k in
         let j = after construct_kind.Branch left loc i in
-        Switch loc (made_expr (left_in left e) Alone e j) (made_cases left (number construct_kind.Branch left loc i) 0 cases (next_expr (left_in left e) false e j))
-    made_stmt home left (Labelled loc name x) k = Labelled loc name (made_stmt false (heed left (stmt_place x)) x (after construct_kind.Statement left loc k))
-    made_stmt home left (Throw loc e) k = Throw loc (made_expr (left_in left e) Alone e (after construct_kind.Statement left loc k))
-    made_stmt home left (TryCatch loc xs catch) k =
+        tree.Switch loc (made_expr (left_in left e) Alone e j) (made_cases left (number construct_kind.Branch left loc i) 0 cases (next_expr (left_in left e) false e j))
+    made_stmt home left (tree.Labelled loc name x) k = tree.Labelled loc name (made_stmt false (heed left (stmt_place x)) x (after construct_kind.Statement left loc k))
+    made_stmt home left (tree.Throw loc e) k = tree.Throw loc (made_expr (left_in left e) Alone e (after construct_kind.Statement left loc k))
+    made_stmt home left (tree.TryCatch loc xs catch) k =
         let j = after construct_kind.Statement left loc k in
-        TryCatch loc (made_stmts true left xs j) (made_catch left catch (next_stmts left xs j))
-    made_stmt home left (TryFinally loc xs ys) k =
+        tree.TryCatch loc (made_stmts true left xs j) (made_catch left catch (next_stmts left xs j))
+    made_stmt home left (tree.TryFinally loc xs ys) k =
         let j = after construct_kind.Statement left loc k in
-        TryFinally loc (made_stmts true left xs j) (made_stmts true left ys (next_stmts left xs j))
-    made_stmt home left (TryCatchFinally loc xs catch ys) k =
+        tree.TryFinally loc (made_stmts true left xs j) (made_stmts true left ys (next_stmts left xs j))
+    made_stmt home left (tree.TryCatchFinally loc xs catch ys) k =
         let i = after construct_kind.Statement left loc k in
         let j = next_stmts left xs i in
-        TryCatchFinally loc (made_stmts true left xs i) (made_catch left catch j) (made_stmts true left ys (next_catch left catch j))
-    made_stmt home left (Debugger loc) k = Debugger loc
-    made_stmt home left (FunctionDeclaration loc name function) k = FunctionDeclaration loc name (made_function left (function_place loc (Some name) (body_place function)) function k)
-    made_stmt home left (EnteredStmt m x) k = made_stmt home left x k
+        tree.TryCatchFinally loc (made_stmts true left xs i) (made_catch left catch j) (made_stmts true left ys (next_catch left catch j))
+    made_stmt home left (tree.Debugger loc) k = tree.Debugger loc
+    made_stmt home left (tree.FunctionDeclaration loc name function) k = tree.FunctionDeclaration loc name (made_function left (function_place loc (Some name) (body_place function)) function k)
+    made_stmt home left (tree.EnteredStmt m x) k = made_stmt home left x k
 
     -- the arm itself
     pub bare_arm : Heed → MaybeStmt → Counts → MaybeStmt
-    bare_arm left none_stmt k = none_stmt
-    bare_arm left (some_stmt x) k = some_stmt (made_stmt false left x k)
-    bare_arm left (entered_none m) k = none_stmt
+    bare_arm left tree.none_stmt k = tree.none_stmt
+    bare_arm left (tree.some_stmt x) k = tree.some_stmt (made_stmt false left x k)
+    bare_arm left (tree.entered_none m) k = tree.none_stmt
 
     -- `hoists` says whether the first is the first of a declaration that is at home
     pub made_declarators : Bool → Heed → Declarators → Counts → Declarators
-    made_declarators hoists left no_declarator k = no_declarator
-    made_declarators hoists left (more_declarator x xs) k =
+    made_declarators hoists left tree.no_declarator k = tree.no_declarator
+    made_declarators hoists left (tree.more_declarator x xs) k =
         let inner = heed left (declarator_place x) in
-        more_declarator (made_declarator hoists inner x k) (made_declarators false left xs (next_declarator inner x k))
+        tree.more_declarator (made_declarator hoists inner x k) (made_declarators false left xs (next_declarator inner x k))
 
     pub made_declarator : Bool → Heed → Declarator → Counts → Declarator
-    made_declarator hoists left (MakeDeclarator loc pattern none_expr) k = MakeDeclarator loc pattern none_expr
-    made_declarator hoists left (MakeDeclarator loc pattern (some_expr e)) k = MakeDeclarator loc pattern (some_expr
+    made_declarator hoists left (tree.MakeDeclarator loc pattern tree.none_expr) k = tree.MakeDeclarator loc pattern tree.none_expr
+    made_declarator hoists left (tree.MakeDeclarator loc pattern (tree.some_expr e)) k = tree.MakeDeclarator loc pattern (tree.some_expr
         (initial counter hoists (is_anonymous e) (bound_name pattern) (value_marks left e k) (made_expr (left_in left e) Alone e (after construct_kind.Statement (left_in left e) (bare_place e) k))))
 
     pub made_init : Heed → ForInit → Counts → ForInit
-    made_init left NoInit k = NoInit
-    made_init left (InitDeclaration kind xs) k = InitDeclaration kind (made_declarators false left xs k)
-    made_init left (InitExpression e) k = InitExpression (made_expr (left_in left e) Alone e k)
+    made_init left tree.NoInit k = tree.NoInit
+    made_init left (tree.InitDeclaration kind xs) k = tree.InitDeclaration kind (made_declarators false left xs k)
+    made_init left (tree.InitExpression e) k = tree.InitExpression (made_expr (left_in left e) Alone e k)
 
     pub made_target : Heed → ForTarget → Counts → ForTarget
-    made_target left (TargetDeclaration kind pattern) k = TargetDeclaration kind pattern
-    made_target left (TargetExpression e) k = TargetExpression (made_expr (left_in left e) Alone e k)
+    made_target left (tree.TargetDeclaration kind pattern) k = tree.TargetDeclaration kind pattern
+    made_target left (tree.TargetExpression e) k = tree.TargetExpression (made_expr (left_in left e) Alone e k)
 
     -- the clauses of a `switch`, with its branch and the next of its paths
     pub made_cases : Heed → Option ℕ → ℕ → Cases → Counts → Cases
-    made_cases left b path no_case k = no_case
-    made_cases left b path (more_case x xs) k =
+    made_cases left b path tree.no_case k = tree.no_case
+    made_cases left b path (tree.more_case x xs) k =
         let inner = heed left (case_place x) in
-        more_case (made_case inner (counts counter (path_marks inner b path)) x k) (made_cases left b (past inner path) xs (next_case inner x k))
+        tree.more_case (made_case inner (counts counter (path_marks inner b path)) x k) (made_cases left b (past inner path) xs (next_case inner x k))
 
     pub made_case : Heed → Stmts → Case → Counts → Case
-    made_case left zs (MakeCase loc e xs) k = MakeCase loc (made_maybe left e k) (joined zs (made_stmts false left xs (next_maybe left e k)))
-    made_case left zs (EnteredCase m x) k = made_case left zs x k
+    made_case left zs (tree.MakeCase loc e xs) k = tree.MakeCase loc (made_maybe left e k) (joined zs (made_stmts false left xs (next_maybe left e k)))
+    made_case left zs (tree.EnteredCase m x) k = made_case left zs x k
 
     pub made_catch : Heed → Catch → Counts → Catch
-    made_catch left (MakeCatch pattern xs) k = MakeCatch pattern (made_stmts true left xs k)
+    made_catch left (tree.MakeCatch pattern xs) k = tree.MakeCatch pattern (made_stmts true left xs k)
 
   -- a function after its own number, with its counter
   abbrev pub made_inside : Heed → Stmts → Function → Counts → Function
-  made_inside left zs (MakeFunction i params body) k = MakeFunction 0 (made_params left params k) (made_body left zs body (next_params left params k))
+  made_inside left zs (tree.MakeFunction i params body) k = tree.MakeFunction 0 (made_params left params k) (made_body left zs body (next_params left params k))
 
   -- the body of a loop
   abbrev pub made_looped : Heed → Stmt → Counts → Stmt
@@ -542,4 +520,4 @@ module _ (counter : Mark → Expr) where
 
   -- a file, with what stands before its statements, after its directives
   abbrev pub made_file : Stmts → File → Counts → File
-  made_file first (MakeFile body comments) k = MakeFile (after_directives first (made_stmts true (heed_comments comments) body k)) comments
+  made_file first (tree.MakeFile body comments) k = tree.MakeFile (after_directives first (made_stmts true (heed_comments comments) body k)) comments

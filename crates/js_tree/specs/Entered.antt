@@ -6,30 +6,8 @@ use Rattle.js_terms.specs.declared.place.Loc.{Loc}
 use Rattle.js_terms.specs.Mark.{Mark}
 use Rattle.js_tree.specs.Marked.{is_mark, one_if}
 use Rattle.js_tree.specs.Places.{bare_place, stmt_place, case_place, braced_place}
-use Rattle.js_tree.specs.Plain.{Expr, IdentifierReference, This, NullLiteral, BooleanLiteral, NumericLiteral, StringLiteral, ArrayLiteral, ObjectLiteral, FunctionExpression, ArrowFunction, RegularExpressionLiteral, TemplateLiteral, Parenthesized, NamedMember, ComputedMember, New, Call, PostfixUpdate, PrefixUpdate, Unary, Binary, Logical, Conditional, Assignment, Comma, Entered}
-use Rattle.js_tree.specs.Plain.{Stmt, Directive, Block, VariableDeclaration, Empty, Expression, If, DoWhile, While, For, ForIn, ForOf, Continue, Break, Return, Switch, Labelled, Throw, TryCatch, TryFinally, TryCatchFinally, Debugger, FunctionDeclaration, EnteredStmt}
-use Rattle.js_tree.specs.Plain.{Property, Shorthand, KeyValue, Method}
-use Rattle.js_tree.specs.Plain.{PropertyKey, NameKey, StringKey, NumberKey, ComputedKey}
-use Rattle.js_tree.specs.Plain.{ConciseBody, ExpressionBody, BlockBody}
-use Rattle.js_tree.specs.Plain.{ForInit, NoInit, InitDeclaration, InitExpression}
-use Rattle.js_tree.specs.Plain.{ForTarget, TargetDeclaration, TargetExpression}
-use Rattle.js_tree.specs.Plain.{TemplatePart, MakeTemplatePart}
-use Rattle.js_tree.specs.Plain.{Function, MakeFunction}
-use Rattle.js_tree.specs.Plain.{FunctionBody, MakeFunctionBody, EnteredBody}
-use Rattle.js_tree.specs.Plain.{Param, MakeParam}
-use Rattle.js_tree.specs.Plain.{Declarator, MakeDeclarator}
-use Rattle.js_tree.specs.Plain.{Case, MakeCase, EnteredCase}
-use Rattle.js_tree.specs.Plain.{Catch, MakeCatch}
-use Rattle.js_tree.specs.Plain.{MaybeExpr, none_expr, some_expr}
-use Rattle.js_tree.specs.Plain.{MaybeStmt, none_stmt, some_stmt, entered_none}
-use Rattle.js_tree.specs.Plain.{Exprs, no_expr, more_expr}
-use Rattle.js_tree.specs.Plain.{TemplateParts, no_template_part, more_template_part}
-use Rattle.js_tree.specs.Plain.{Properties, no_property, more_property}
-use Rattle.js_tree.specs.Plain.{Params, no_param, more_param}
-use Rattle.js_tree.specs.Plain.{Stmts, no_stmt, more_stmt}
-use Rattle.js_tree.specs.Plain.{Declarators, no_declarator, more_declarator}
-use Rattle.js_tree.specs.Plain.{Cases, no_case, more_case}
-use Rattle.js_tree.specs.Plain.{File, MakeFile}
+use Rattle.js_tree.specs.Plain as tree
+use Rattle.js_tree.specs.Plain.{Expr, Stmt, Property, PropertyKey, ConciseBody, ForInit, ForTarget, TemplatePart, Function, FunctionBody, Param, Declarator, Case, Catch, MaybeExpr, MaybeStmt, Exprs, TemplateParts, Properties, Params, Stmts, Declarators, Cases, File}
 
 -- a mark, and the place of what it enters: none, where an arm is missing
 pub record PlacedMark : Type 0 where
@@ -46,8 +24,8 @@ with_place (Some loc) places = loc ∷ places
 
 -- the places of the statements that begin here: of those that are labelled, from the outermost label on, and of the one under them
 abbrev pub places_of : Stmt → List Loc
-places_of (Labelled loc _ x) = with_place loc (places_of x)
-places_of (EnteredStmt _ x) = places_of x
+places_of (tree.Labelled loc _ x) = with_place loc (places_of x)
+places_of (tree.EnteredStmt _ x) = places_of x
 places_of x = with_place (stmt_place x) []
 
 -- before a statement, a statement's mark enters the first of them that is left, and a branch's mark the arm that is here
@@ -63,145 +41,145 @@ places_after _ places = places
 
 abbrev mutual
   pub entered_expr : Expr → List PlacedMark
-  entered_expr (IdentifierReference _ _) = []
-  entered_expr (This _) = []
-  entered_expr (NullLiteral _) = []
-  entered_expr (BooleanLiteral _ _) = []
-  entered_expr (NumericLiteral _ _) = []
-  entered_expr (StringLiteral _ _) = []
-  entered_expr (ArrayLiteral _ es) = entered_exprs es
-  entered_expr (ObjectLiteral _ properties) = entered_properties properties
-  entered_expr (FunctionExpression _ _ function) = entered_function function
-  entered_expr (ArrowFunction _ _ params body) = entered_params params ++ entered_concise_body body
-  entered_expr (RegularExpressionLiteral _ _ _) = []
-  entered_expr (TemplateLiteral _ _ parts) = entered_template_parts parts
-  entered_expr (Parenthesized _ e) = entered_expr e
-  entered_expr (NamedMember _ e _) = entered_expr e
-  entered_expr (ComputedMember _ e f) = entered_expr e ++ entered_expr f
-  entered_expr (New _ e es) = entered_expr e ++ entered_exprs es
-  entered_expr (Call _ e es) = entered_expr e ++ entered_exprs es
-  entered_expr (PostfixUpdate _ _ e) = entered_expr e
-  entered_expr (PrefixUpdate _ _ e) = entered_expr e
-  entered_expr (Unary _ _ e) = entered_expr e
-  entered_expr (Binary _ _ e f) = entered_expr e ++ entered_expr f
-  entered_expr (Logical _ _ e f) = entered_expr e ++ entered_expr f
-  entered_expr (Conditional _ e f g) = entered_expr e ++ entered_expr f ++ entered_expr g
-  entered_expr (Assignment _ _ e f) = entered_expr e ++ entered_expr f
-  entered_expr (Comma _ e f) = entered_expr e ++ entered_expr f
-  entered_expr (Entered mark e) = placed mark (bare_place e) ∷ entered_expr e
+  entered_expr (tree.IdentifierReference _ _) = []
+  entered_expr (tree.This _) = []
+  entered_expr (tree.NullLiteral _) = []
+  entered_expr (tree.BooleanLiteral _ _) = []
+  entered_expr (tree.NumericLiteral _ _) = []
+  entered_expr (tree.StringLiteral _ _) = []
+  entered_expr (tree.ArrayLiteral _ es) = entered_exprs es
+  entered_expr (tree.ObjectLiteral _ properties) = entered_properties properties
+  entered_expr (tree.FunctionExpression _ _ function) = entered_function function
+  entered_expr (tree.ArrowFunction _ _ params body) = entered_params params ++ entered_concise_body body
+  entered_expr (tree.RegularExpressionLiteral _ _ _) = []
+  entered_expr (tree.TemplateLiteral _ _ parts) = entered_template_parts parts
+  entered_expr (tree.Parenthesized _ e) = entered_expr e
+  entered_expr (tree.NamedMember _ e _) = entered_expr e
+  entered_expr (tree.ComputedMember _ e f) = entered_expr e ++ entered_expr f
+  entered_expr (tree.New _ e es) = entered_expr e ++ entered_exprs es
+  entered_expr (tree.Call _ e es) = entered_expr e ++ entered_exprs es
+  entered_expr (tree.PostfixUpdate _ _ e) = entered_expr e
+  entered_expr (tree.PrefixUpdate _ _ e) = entered_expr e
+  entered_expr (tree.Unary _ _ e) = entered_expr e
+  entered_expr (tree.Binary _ _ e f) = entered_expr e ++ entered_expr f
+  entered_expr (tree.Logical _ _ e f) = entered_expr e ++ entered_expr f
+  entered_expr (tree.Conditional _ e f g) = entered_expr e ++ entered_expr f ++ entered_expr g
+  entered_expr (tree.Assignment _ _ e f) = entered_expr e ++ entered_expr f
+  entered_expr (tree.Comma _ e f) = entered_expr e ++ entered_expr f
+  entered_expr (tree.Entered mark e) = placed mark (bare_place e) ∷ entered_expr e
 
   -- a statement, by the place of the branch's path that leads here, and the places of those that the marks before it still enter
   pub entered_stmt : Option Loc → List Loc → Stmt → List PlacedMark
-  entered_stmt arm places (Directive _ _) = []
-  entered_stmt arm places (Block _ xs) = entered_stmts xs
-  entered_stmt arm places (VariableDeclaration _ _ declarators) = entered_declarators declarators
-  entered_stmt arm places (Empty _) = []
-  entered_stmt arm places (Expression _ e) = entered_expr e
-  entered_stmt arm places (If loc e x y) = entered_expr e ++ entered_stmt loc (places_of x) x ++ entered_stmt_if y
-  entered_stmt arm places (DoWhile _ x e) = entered_stmt None (places_of x) x ++ entered_expr e
-  entered_stmt arm places (While _ e x) = entered_expr e ++ entered_stmt None (places_of x) x
-  entered_stmt arm places (For _ init e f x) = entered_for_init init ++ entered_expr_if e ++ entered_expr_if f ++ entered_stmt None (places_of x) x
-  entered_stmt arm places (ForIn _ target e x) = entered_for_target target ++ entered_expr e ++ entered_stmt None (places_of x) x
-  entered_stmt arm places (ForOf _ target e x) = entered_for_target target ++ entered_expr e ++ entered_stmt None (places_of x) x
-  entered_stmt arm places (Continue _ _) = []
-  entered_stmt arm places (Break _ _) = []
-  entered_stmt arm places (Return _ e) = entered_expr_if e
-  entered_stmt arm places (Switch _ e cases) = entered_expr e ++ entered_cases cases
-  entered_stmt arm places (Labelled _ _ x) = entered_stmt None (places_of x) x
-  entered_stmt arm places (Throw _ e) = entered_expr e
-  entered_stmt arm places (TryCatch _ xs catch) = entered_stmts xs ++ entered_catch catch
-  entered_stmt arm places (TryFinally _ xs ys) = entered_stmts xs ++ entered_stmts ys
-  entered_stmt arm places (TryCatchFinally _ xs catch ys) = entered_stmts xs ++ entered_catch catch ++ entered_stmts ys
-  entered_stmt arm places (Debugger _) = []
-  entered_stmt arm places (FunctionDeclaration _ _ function) = entered_function function
-  entered_stmt arm places (EnteredStmt mark x) = placed mark (place_by mark.kind arm places) ∷ entered_stmt arm (places_after mark.kind places) x
+  entered_stmt arm places (tree.Directive _ _) = []
+  entered_stmt arm places (tree.Block _ xs) = entered_stmts xs
+  entered_stmt arm places (tree.VariableDeclaration _ _ declarators) = entered_declarators declarators
+  entered_stmt arm places (tree.Empty _) = []
+  entered_stmt arm places (tree.Expression _ e) = entered_expr e
+  entered_stmt arm places (tree.If loc e x y) = entered_expr e ++ entered_stmt loc (places_of x) x ++ entered_stmt_if y
+  entered_stmt arm places (tree.DoWhile _ x e) = entered_stmt None (places_of x) x ++ entered_expr e
+  entered_stmt arm places (tree.While _ e x) = entered_expr e ++ entered_stmt None (places_of x) x
+  entered_stmt arm places (tree.For _ init e f x) = entered_for_init init ++ entered_expr_if e ++ entered_expr_if f ++ entered_stmt None (places_of x) x
+  entered_stmt arm places (tree.ForIn _ target e x) = entered_for_target target ++ entered_expr e ++ entered_stmt None (places_of x) x
+  entered_stmt arm places (tree.ForOf _ target e x) = entered_for_target target ++ entered_expr e ++ entered_stmt None (places_of x) x
+  entered_stmt arm places (tree.Continue _ _) = []
+  entered_stmt arm places (tree.Break _ _) = []
+  entered_stmt arm places (tree.Return _ e) = entered_expr_if e
+  entered_stmt arm places (tree.Switch _ e cases) = entered_expr e ++ entered_cases cases
+  entered_stmt arm places (tree.Labelled _ _ x) = entered_stmt None (places_of x) x
+  entered_stmt arm places (tree.Throw _ e) = entered_expr e
+  entered_stmt arm places (tree.TryCatch _ xs catch) = entered_stmts xs ++ entered_catch catch
+  entered_stmt arm places (tree.TryFinally _ xs ys) = entered_stmts xs ++ entered_stmts ys
+  entered_stmt arm places (tree.TryCatchFinally _ xs catch ys) = entered_stmts xs ++ entered_catch catch ++ entered_stmts ys
+  entered_stmt arm places (tree.Debugger _) = []
+  entered_stmt arm places (tree.FunctionDeclaration _ _ function) = entered_function function
+  entered_stmt arm places (tree.EnteredStmt mark x) = placed mark (place_by mark.kind arm places) ∷ entered_stmt arm (places_after mark.kind places) x
 
   pub entered_property : Property → List PlacedMark
-  entered_property (Shorthand _ _) = []
-  entered_property (KeyValue _ key e) = entered_property_key key ++ entered_expr e
-  entered_property (Method _ key function) = entered_property_key key ++ entered_function function
+  entered_property (tree.Shorthand _ _) = []
+  entered_property (tree.KeyValue _ key e) = entered_property_key key ++ entered_expr e
+  entered_property (tree.Method _ key function) = entered_property_key key ++ entered_function function
 
   pub entered_property_key : PropertyKey → List PlacedMark
-  entered_property_key (NameKey _) = []
-  entered_property_key (StringKey _) = []
-  entered_property_key (NumberKey _) = []
-  entered_property_key (ComputedKey e) = entered_expr e
+  entered_property_key (tree.NameKey _) = []
+  entered_property_key (tree.StringKey _) = []
+  entered_property_key (tree.NumberKey _) = []
+  entered_property_key (tree.ComputedKey e) = entered_expr e
 
   pub entered_concise_body : ConciseBody → List PlacedMark
-  entered_concise_body (ExpressionBody e) = entered_expr e
-  entered_concise_body (BlockBody body) = entered_function_body body
+  entered_concise_body (tree.ExpressionBody e) = entered_expr e
+  entered_concise_body (tree.BlockBody body) = entered_function_body body
 
   pub entered_for_init : ForInit → List PlacedMark
-  entered_for_init NoInit = []
-  entered_for_init (InitDeclaration _ declarators) = entered_declarators declarators
-  entered_for_init (InitExpression e) = entered_expr e
+  entered_for_init tree.NoInit = []
+  entered_for_init (tree.InitDeclaration _ declarators) = entered_declarators declarators
+  entered_for_init (tree.InitExpression e) = entered_expr e
 
   pub entered_for_target : ForTarget → List PlacedMark
-  entered_for_target (TargetDeclaration _ _) = []
-  entered_for_target (TargetExpression e) = entered_expr e
+  entered_for_target (tree.TargetDeclaration _ _) = []
+  entered_for_target (tree.TargetExpression e) = entered_expr e
 
   pub entered_template_part : TemplatePart → List PlacedMark
-  entered_template_part (MakeTemplatePart e _) = entered_expr e
+  entered_template_part (tree.MakeTemplatePart e _) = entered_expr e
 
   pub entered_function : Function → List PlacedMark
-  entered_function (MakeFunction _ params body) = entered_params params ++ entered_function_body body
+  entered_function (tree.MakeFunction _ params body) = entered_params params ++ entered_function_body body
 
   pub entered_function_body : FunctionBody → List PlacedMark
-  entered_function_body (MakeFunctionBody _ xs) = entered_stmts xs
-  entered_function_body (EnteredBody mark body) = placed mark (braced_place body) ∷ entered_function_body body
+  entered_function_body (tree.MakeFunctionBody _ xs) = entered_stmts xs
+  entered_function_body (tree.EnteredBody mark body) = placed mark (braced_place body) ∷ entered_function_body body
 
   pub entered_param : Param → List PlacedMark
-  entered_param (MakeParam _ _ e) = entered_expr_if e
+  entered_param (tree.MakeParam _ _ e) = entered_expr_if e
 
   pub entered_declarator : Declarator → List PlacedMark
-  entered_declarator (MakeDeclarator _ _ e) = entered_expr_if e
+  entered_declarator (tree.MakeDeclarator _ _ e) = entered_expr_if e
 
   pub entered_case : Case → List PlacedMark
-  entered_case (MakeCase _ e xs) = entered_expr_if e ++ entered_stmts xs
-  entered_case (EnteredCase mark x) = placed mark (case_place x) ∷ entered_case x
+  entered_case (tree.MakeCase _ e xs) = entered_expr_if e ++ entered_stmts xs
+  entered_case (tree.EnteredCase mark x) = placed mark (case_place x) ∷ entered_case x
 
   pub entered_catch : Catch → List PlacedMark
-  entered_catch (MakeCatch _ xs) = entered_stmts xs
+  entered_catch (tree.MakeCatch _ xs) = entered_stmts xs
 
   pub entered_expr_if : MaybeExpr → List PlacedMark
-  entered_expr_if none_expr = []
-  entered_expr_if (some_expr e) = entered_expr e
+  entered_expr_if tree.none_expr = []
+  entered_expr_if (tree.some_expr e) = entered_expr e
 
   pub entered_stmt_if : MaybeStmt → List PlacedMark
-  entered_stmt_if none_stmt = []
-  entered_stmt_if (some_stmt x) = entered_stmt (stmt_place x) (places_of x) x
-  entered_stmt_if (entered_none mark) = placed mark None ∷ []
+  entered_stmt_if tree.none_stmt = []
+  entered_stmt_if (tree.some_stmt x) = entered_stmt (stmt_place x) (places_of x) x
+  entered_stmt_if (tree.entered_none mark) = placed mark None ∷ []
 
   pub entered_exprs : Exprs → List PlacedMark
-  entered_exprs no_expr = []
-  entered_exprs (more_expr x xs) = entered_expr x ++ entered_exprs xs
+  entered_exprs tree.no_expr = []
+  entered_exprs (tree.more_expr x xs) = entered_expr x ++ entered_exprs xs
 
   pub entered_template_parts : TemplateParts → List PlacedMark
-  entered_template_parts no_template_part = []
-  entered_template_parts (more_template_part x xs) = entered_template_part x ++ entered_template_parts xs
+  entered_template_parts tree.no_template_part = []
+  entered_template_parts (tree.more_template_part x xs) = entered_template_part x ++ entered_template_parts xs
 
   pub entered_properties : Properties → List PlacedMark
-  entered_properties no_property = []
-  entered_properties (more_property x xs) = entered_property x ++ entered_properties xs
+  entered_properties tree.no_property = []
+  entered_properties (tree.more_property x xs) = entered_property x ++ entered_properties xs
 
   pub entered_params : Params → List PlacedMark
-  entered_params no_param = []
-  entered_params (more_param x xs) = entered_param x ++ entered_params xs
+  entered_params tree.no_param = []
+  entered_params (tree.more_param x xs) = entered_param x ++ entered_params xs
 
   pub entered_stmts : Stmts → List PlacedMark
-  entered_stmts no_stmt = []
-  entered_stmts (more_stmt x xs) = entered_stmt None (places_of x) x ++ entered_stmts xs
+  entered_stmts tree.no_stmt = []
+  entered_stmts (tree.more_stmt x xs) = entered_stmt None (places_of x) x ++ entered_stmts xs
 
   pub entered_declarators : Declarators → List PlacedMark
-  entered_declarators no_declarator = []
-  entered_declarators (more_declarator x xs) = entered_declarator x ++ entered_declarators xs
+  entered_declarators tree.no_declarator = []
+  entered_declarators (tree.more_declarator x xs) = entered_declarator x ++ entered_declarators xs
 
   pub entered_cases : Cases → List PlacedMark
-  entered_cases no_case = []
-  entered_cases (more_case x xs) = entered_case x ++ entered_cases xs
+  entered_cases tree.no_case = []
+  entered_cases (tree.more_case x xs) = entered_case x ++ entered_cases xs
 
 abbrev pub entered_file : File → List PlacedMark
-entered_file (MakeFile body comments) = entered_stmts body
+entered_file (tree.MakeFile body comments) = entered_stmts body
 
 -- how many of a list are such
 abbrev pub how_many : {T : Type 0} → (T → Bool) → List T → ℕ

@@ -12,30 +12,8 @@ use Rattle.js_tree.specs.declared.hint.Hint.TheVariants as hint
 use Rattle.js_tree.specs.Hints.{Heed, Ignored, Heeding, no_hints, heed, heed_arm, heed_comments, heeded_place, leaf_paths}
 use Rattle.js_terms.specs.Mark.{Mark}
 use Rattle.js_tree.specs.Places.{bare_place, expr_place, stmt_place, stmt_if_place, property_place, param_place, declarator_place, case_place, concise_place, braced_place}
-use Rattle.js_tree.specs.Plain.{Expr, IdentifierReference, This, NullLiteral, BooleanLiteral, NumericLiteral, StringLiteral, ArrayLiteral, ObjectLiteral, FunctionExpression, ArrowFunction, RegularExpressionLiteral, TemplateLiteral, Parenthesized, NamedMember, ComputedMember, New, Call, PostfixUpdate, PrefixUpdate, Unary, Binary, Logical, Conditional, Assignment, Comma, Entered}
-use Rattle.js_tree.specs.Plain.{Stmt, Directive, Block, VariableDeclaration, Empty, Expression, If, DoWhile, While, For, ForIn, ForOf, Continue, Break, Return, Switch, Labelled, Throw, TryCatch, TryFinally, TryCatchFinally, Debugger, FunctionDeclaration, EnteredStmt}
-use Rattle.js_tree.specs.Plain.{Property, Shorthand, KeyValue, Method}
-use Rattle.js_tree.specs.Plain.{PropertyKey, NameKey, StringKey, NumberKey, ComputedKey}
-use Rattle.js_tree.specs.Plain.{ConciseBody, ExpressionBody, BlockBody}
-use Rattle.js_tree.specs.Plain.{ForInit, NoInit, InitDeclaration, InitExpression}
-use Rattle.js_tree.specs.Plain.{ForTarget, TargetDeclaration, TargetExpression}
-use Rattle.js_tree.specs.Plain.{TemplatePart, MakeTemplatePart}
-use Rattle.js_tree.specs.Plain.{Function, MakeFunction}
-use Rattle.js_tree.specs.Plain.{FunctionBody, MakeFunctionBody, EnteredBody}
-use Rattle.js_tree.specs.Plain.{Param, MakeParam}
-use Rattle.js_tree.specs.Plain.{Declarator, MakeDeclarator}
-use Rattle.js_tree.specs.Plain.{Case, MakeCase, EnteredCase}
-use Rattle.js_tree.specs.Plain.{Catch, MakeCatch}
-use Rattle.js_tree.specs.Plain.{MaybeExpr, none_expr, some_expr}
-use Rattle.js_tree.specs.Plain.{MaybeStmt, none_stmt, some_stmt, entered_none}
-use Rattle.js_tree.specs.Plain.{Exprs, no_expr, more_expr}
-use Rattle.js_tree.specs.Plain.{TemplateParts, no_template_part, more_template_part}
-use Rattle.js_tree.specs.Plain.{Properties, no_property, more_property}
-use Rattle.js_tree.specs.Plain.{Params, no_param, more_param}
-use Rattle.js_tree.specs.Plain.{Stmts, no_stmt, more_stmt}
-use Rattle.js_tree.specs.Plain.{Declarators, no_declarator, more_declarator}
-use Rattle.js_tree.specs.Plain.{Cases, no_case, more_case}
-use Rattle.js_tree.specs.Plain.{File, MakeFile}
+use Rattle.js_tree.specs.Plain as tree
+use Rattle.js_tree.specs.Plain.{Expr, Stmt, Property, PropertyKey, ConciseBody, ForInit, ForTarget, TemplatePart, Function, FunctionBody, Param, Declarator, Case, Catch, MaybeExpr, MaybeStmt, Exprs, TemplateParts, Properties, Params, Stmts, Declarators, Cases, File}
 
 -- whether constructs are entered: in no file that isn't counted; in a counted one, by its number in the program and by what its
 -- hints have left here
@@ -163,21 +141,21 @@ counting m kind loc f k = f (marks m kind loc k) (after_marks m kind loc k)
 
 abbrev pub enter_expr : Marks → ℕ → Expr → Expr
 enter_expr Uncounted path e = e
-enter_expr (Counted file kind number) path e = Entered (mark file kind number path) e
+enter_expr (Counted file kind number) path e = tree.Entered (mark file kind number path) e
 
 abbrev pub enter_stmt : Marks → ℕ → Stmt → Stmt
 enter_stmt Uncounted path x = x
-enter_stmt (Counted file kind number) path x = EnteredStmt (mark file kind number path) x
+enter_stmt (Counted file kind number) path x = tree.EnteredStmt (mark file kind number path) x
 
 abbrev pub enter_case : Marks → ℕ → Case → Case
 enter_case Uncounted path x = x
-enter_case (Counted file kind number) path x = EnteredCase (mark file kind number path) x
+enter_case (Counted file kind number) path x = tree.EnteredCase (mark file kind number path) x
 
 -- an arm that is missing is entered where it would begin
 abbrev pub entered_arm : Mark → MaybeStmt → MaybeStmt
-entered_arm m none_stmt = entered_none m
-entered_arm m (some_stmt x) = some_stmt (EnteredStmt m x)
-entered_arm m (entered_none n) = entered_none m
+entered_arm m tree.none_stmt = tree.entered_none m
+entered_arm m (tree.some_stmt x) = tree.some_stmt (tree.EnteredStmt m x)
+entered_arm m (tree.entered_none n) = tree.entered_none m
 
 abbrev pub enter_arm : Marks → ℕ → MaybeStmt → MaybeStmt
 enter_arm Uncounted path x = x
@@ -201,8 +179,8 @@ pub data Chain : Type 0 where
 
 -- an operand is a leaf, unless it is a chain or stands in parentheses: then the leaves are in it
 abbrev pub enter_leaf : Marks → ℕ → Expr → Expr
-enter_leaf b path (Logical loc operator left right) = Logical loc operator left right
-enter_leaf b path (Parenthesized loc inner) = Parenthesized loc inner
+enter_leaf b path (tree.Logical loc operator left right) = tree.Logical loc operator left right
+enter_leaf b path (tree.Parenthesized loc inner) = tree.Parenthesized loc inner
 enter_leaf b path leaf = enter_expr b path leaf
 
 abbrev pub operand : Marking → Chain → Linked Expr → Linked Expr
@@ -217,11 +195,11 @@ past_leaves (Within file left) e path = path + length (leaf_paths left e)
 -- a function is entered where its body starts
 abbrev pub enter_body : Marks → FunctionBody → FunctionBody
 enter_body Uncounted body = body
-enter_body (Counted file kind number) body = EnteredBody (mark file kind number 0) body
+enter_body (Counted file kind number) body = tree.EnteredBody (mark file kind number 0) body
 
 abbrev pub enter_concise_body : Marks → ConciseBody → ConciseBody
-enter_concise_body f (ExpressionBody e) = ExpressionBody (enter_expr f 0 e)
-enter_concise_body f (BlockBody body) = BlockBody (enter_body f body)
+enter_concise_body f (tree.ExpressionBody e) = tree.ExpressionBody (enter_expr f 0 e)
+enter_concise_body f (tree.BlockBody body) = tree.BlockBody (enter_body f body)
 
 -- ---- the constructs
 
@@ -253,172 +231,172 @@ numbered_function m loc f params body k = counting m construct_kind.Function loc
 
 -- the statement that a label stands before begins where the labelled one does: its mark comes before the label
 abbrev pub labelled : Option Loc → Identifier → Stmt → Stmt
-labelled loc name (EnteredStmt mark x) = EnteredStmt mark (labelled loc name x)
-labelled loc name x = Labelled loc name x
+labelled loc name (tree.EnteredStmt mark x) = tree.EnteredStmt mark (labelled loc name x)
+labelled loc name x = tree.Labelled loc name x
 
 -- ---- the forms
 
 abbrev mutual
   -- an expression, where it is said whether it is an operand of a chain of logical operators; a node is told what is left in it
   pub link_expr : Marking → Chain → Expr → Numbers → Linked Expr
-  link_expr m chain (IdentifierReference loc text) k = kept (IdentifierReference loc text) k
-  link_expr m chain (This loc) k = kept (This loc) k
-  link_expr m chain (NullLiteral loc) k = kept (NullLiteral loc) k
-  link_expr m chain (BooleanLiteral loc b) k = kept (BooleanLiteral loc b) k
-  link_expr m chain (NumericLiteral loc text) k = kept (NumericLiteral loc text) k
-  link_expr m chain (StringLiteral loc spelled) k = kept (StringLiteral loc spelled) k
-  link_expr m chain (ArrayLiteral loc es) k = made (ArrayLiteral loc) (link_exprs m es k)
-  link_expr m chain (ObjectLiteral loc properties) k = made (ObjectLiteral loc) (link_properties m properties k)
-  link_expr m chain (FunctionExpression loc name function) k = made (FunctionExpression loc name) (link_function m loc name function k)
-  link_expr m chain (ArrowFunction loc number params body) k =
-      numbered_function m (function_place loc None (concise_place body)) (λ code c ps b. ArrowFunction loc code ps (enter_concise_body c b))
+  link_expr m chain (tree.IdentifierReference loc text) k = kept (tree.IdentifierReference loc text) k
+  link_expr m chain (tree.This loc) k = kept (tree.This loc) k
+  link_expr m chain (tree.NullLiteral loc) k = kept (tree.NullLiteral loc) k
+  link_expr m chain (tree.BooleanLiteral loc b) k = kept (tree.BooleanLiteral loc b) k
+  link_expr m chain (tree.NumericLiteral loc text) k = kept (tree.NumericLiteral loc text) k
+  link_expr m chain (tree.StringLiteral loc spelled) k = kept (tree.StringLiteral loc spelled) k
+  link_expr m chain (tree.ArrayLiteral loc es) k = made (tree.ArrayLiteral loc) (link_exprs m es k)
+  link_expr m chain (tree.ObjectLiteral loc properties) k = made (tree.ObjectLiteral loc) (link_properties m properties k)
+  link_expr m chain (tree.FunctionExpression loc name function) k = made (tree.FunctionExpression loc name) (link_function m loc name function k)
+  link_expr m chain (tree.ArrowFunction loc number params body) k =
+      numbered_function m (function_place loc None (concise_place body)) (λ code c ps b. tree.ArrowFunction loc code ps (enter_concise_body c b))
       (link_params m params) (link_concise_body m body) k
-  link_expr m chain (RegularExpressionLiteral loc text flags) k = kept (RegularExpressionLiteral loc text flags) k
-  link_expr m chain (TemplateLiteral loc spelled parts) k = made (TemplateLiteral loc spelled) (link_template_parts m parts k)
-  link_expr m chain (Parenthesized loc e) k = made (Parenthesized loc) (operand m chain (link_expr m chain e k))
-  link_expr m chain (NamedMember loc e text) k = made (λ e'. NamedMember loc e' text) (link_expr (at_expr m e) Alone e k)
-  link_expr m chain (ComputedMember loc e f) k = two (ComputedMember loc) (link_expr (at_expr m e) Alone e k) (link_expr (at_expr m f) Alone f)
-  link_expr m chain (New loc e es) k = two (New loc) (link_expr (at_expr m e) Alone e k) (link_exprs m es)
-  link_expr m chain (Call loc e es) k = two (Call loc) (link_expr (at_expr m e) Alone e k) (link_exprs m es)
-  link_expr m chain (PostfixUpdate loc operator e) k = made (PostfixUpdate loc operator) (link_expr (at_expr m e) Alone e k)
-  link_expr m chain (PrefixUpdate loc operator e) k = made (PrefixUpdate loc operator) (link_expr (at_expr m e) Alone e k)
-  link_expr m chain (Unary loc operator e) k = made (Unary loc operator) (link_expr (at_expr m e) Alone e k)
-  link_expr m chain (Binary loc operator e f) k = two (Binary loc operator) (link_expr (at_expr m e) Alone e k) (link_expr (at_expr m f) Alone f)
-  link_expr m (Operand b path) (Logical loc operator e f) k = two (Logical loc operator)
+  link_expr m chain (tree.RegularExpressionLiteral loc text flags) k = kept (tree.RegularExpressionLiteral loc text flags) k
+  link_expr m chain (tree.TemplateLiteral loc spelled parts) k = made (tree.TemplateLiteral loc spelled) (link_template_parts m parts k)
+  link_expr m chain (tree.Parenthesized loc e) k = made (tree.Parenthesized loc) (operand m chain (link_expr m chain e k))
+  link_expr m chain (tree.NamedMember loc e text) k = made (λ e'. tree.NamedMember loc e' text) (link_expr (at_expr m e) Alone e k)
+  link_expr m chain (tree.ComputedMember loc e f) k = two (tree.ComputedMember loc) (link_expr (at_expr m e) Alone e k) (link_expr (at_expr m f) Alone f)
+  link_expr m chain (tree.New loc e es) k = two (tree.New loc) (link_expr (at_expr m e) Alone e k) (link_exprs m es)
+  link_expr m chain (tree.Call loc e es) k = two (tree.Call loc) (link_expr (at_expr m e) Alone e k) (link_exprs m es)
+  link_expr m chain (tree.PostfixUpdate loc operator e) k = made (tree.PostfixUpdate loc operator) (link_expr (at_expr m e) Alone e k)
+  link_expr m chain (tree.PrefixUpdate loc operator e) k = made (tree.PrefixUpdate loc operator) (link_expr (at_expr m e) Alone e k)
+  link_expr m chain (tree.Unary loc operator e) k = made (tree.Unary loc operator) (link_expr (at_expr m e) Alone e k)
+  link_expr m chain (tree.Binary loc operator e f) k = two (tree.Binary loc operator) (link_expr (at_expr m e) Alone e k) (link_expr (at_expr m f) Alone f)
+  link_expr m (Operand b path) (tree.Logical loc operator e f) k = two (tree.Logical loc operator)
       (operand (at_expr m e) (Operand b path) (link_expr (at_expr m e) (Operand b path) e k))
       (λ k. operand (at_expr m f) (Operand b (past_leaves (at_expr m e) e path)) (link_expr (at_expr m f) (Operand b (past_leaves (at_expr m e) e path)) f k))
-  link_expr m Alone (Logical loc operator e f) k = branched m loc (λ b k. two (Logical loc operator)
+  link_expr m Alone (tree.Logical loc operator e f) k = branched m loc (λ b k. two (tree.Logical loc operator)
       (operand (at_expr m e) (Operand b 0) (link_expr (at_expr m e) (Operand b 0) e k))
       (λ k. operand (at_expr m f) (Operand b (past_leaves (at_expr m e) e 0)) (link_expr (at_expr m f) (Operand b (past_leaves (at_expr m e) e 0)) f k))) k
-  link_expr m chain (Conditional loc e f g) k = branched m loc
-      (λ b k. three (λ e' f' g'. Conditional loc e' (enter_expr (by_path (at_expr m f) b) 0 f') (enter_expr (by_path (at_expr m g) b) (past_path (at_expr m f) 0) g'))
+  link_expr m chain (tree.Conditional loc e f g) k = branched m loc
+      (λ b k. three (λ e' f' g'. tree.Conditional loc e' (enter_expr (by_path (at_expr m f) b) 0 f') (enter_expr (by_path (at_expr m g) b) (past_path (at_expr m f) 0) g'))
       (link_expr (at_expr m e) Alone e k) (link_expr (at_expr m f) Alone f) (link_expr (at_expr m g) Alone g)) k
-  link_expr m chain (Assignment loc operator e f) k = two (Assignment loc operator) (link_expr (at_expr m e) Alone e k) (link_expr (at_expr m f) Alone f)
-  link_expr m chain (Comma loc e f) k = two (Comma loc) (link_expr (at_expr m e) Alone e k) (link_expr (at_expr m f) Alone f)
-  link_expr m chain (Entered mark e) k = link_expr m chain e k
+  link_expr m chain (tree.Assignment loc operator e f) k = two (tree.Assignment loc operator) (link_expr (at_expr m e) Alone e k) (link_expr (at_expr m f) Alone f)
+  link_expr m chain (tree.Comma loc e f) k = two (tree.Comma loc) (link_expr (at_expr m e) Alone e k) (link_expr (at_expr m f) Alone f)
+  link_expr m chain (tree.Entered mark e) k = link_expr m chain e k
 
   pub link_stmt : Marking → Stmt → Numbers → Linked Stmt
-  link_stmt m (Directive loc spelled) k = kept (Directive loc spelled) k
-  link_stmt m (Block loc xs) k = made (Block loc) (link_stmts m xs k)
-  link_stmt m (VariableDeclaration loc kind declarators) k = made (VariableDeclaration loc kind) (link_declarators m declarators k)
-  link_stmt m (Empty loc) k = kept (Empty loc) k
-  link_stmt m (Expression loc e) k = counted_stmt m loc (λ k. made (Expression loc) (link_expr (at_expr m e) Alone e k)) k
-  link_stmt m (If loc e x y) k = counted_stmt m loc (λ k. branched m loc (λ b k.
+  link_stmt m (tree.Directive loc spelled) k = kept (tree.Directive loc spelled) k
+  link_stmt m (tree.Block loc xs) k = made (tree.Block loc) (link_stmts m xs k)
+  link_stmt m (tree.VariableDeclaration loc kind declarators) k = made (tree.VariableDeclaration loc kind) (link_declarators m declarators k)
+  link_stmt m (tree.Empty loc) k = kept (tree.Empty loc) k
+  link_stmt m (tree.Expression loc e) k = counted_stmt m loc (λ k. made (tree.Expression loc) (link_expr (at_expr m e) Alone e k)) k
+  link_stmt m (tree.If loc e x y) k = counted_stmt m loc (λ k. branched m loc (λ b k.
       let holds = at_stmt (at_arm hint.If m loc) x in
       let fails = at_stmt_if (at_arm hint.Else m loc) y in
-      three (λ e' x' y'. If loc e' (enter_stmt (by_path holds b) 0 x') (enter_arm (by_path fails b) (past_path holds 0) y'))
+      three (λ e' x' y'. tree.If loc e' (enter_stmt (by_path holds b) 0 x') (enter_arm (by_path fails b) (past_path holds 0) y'))
       (link_expr (at_expr m e) Alone e k) (link_stmt holds x) (link_stmt_if fails y)) k) k
-  link_stmt m (DoWhile loc x e) k = counted_stmt m loc (λ k. two (DoWhile loc) (link_stmt (at_stmt m x) x k) (link_expr (at_expr m e) Alone e)) k
-  link_stmt m (While loc e x) k = counted_stmt m loc (λ k. two (While loc) (link_expr (at_expr m e) Alone e k) (link_stmt (at_stmt m x) x)) k
-  link_stmt m (For loc init e f x) k = counted_stmt m loc (λ k. four (For loc) (link_for_init m init k) (link_expr_if m e) (link_expr_if m f) (link_stmt (at_stmt m x) x)) k
-  link_stmt m (ForIn loc target e x) k = counted_stmt m loc (λ k. three (ForIn loc) (link_for_target m target k) (link_expr (at_expr m e) Alone e) (link_stmt (at_stmt m x) x)) k
-  link_stmt m (ForOf loc target e x) k = counted_stmt m loc (λ k. three (ForOf loc) (link_for_target m target k) (link_expr (at_expr m e) Alone e) (link_stmt (at_stmt m x) x)) k
-  link_stmt m (Continue loc name) k = counted_stmt m loc (λ k. kept (Continue loc name) k) k
-  link_stmt m (Break loc name) k = counted_stmt m loc (λ k. kept (Break loc name) k) k
-  link_stmt m (Return loc e) k = counted_stmt m loc (λ k. made (Return loc) (link_expr_if m e k)) k
-  link_stmt m (Switch loc e cases) k = counted_stmt m loc (λ k. branched m loc
-      (λ b k. two (Switch loc) (link_expr (at_expr m e) Alone e k) (link_cases m b 0 cases)) k) k
-  link_stmt m (Labelled loc name x) k = counted_stmt m loc (λ k. made (labelled loc name) (link_stmt (at_stmt m x) x k)) k
-  link_stmt m (Throw loc e) k = counted_stmt m loc (λ k. made (Throw loc) (link_expr (at_expr m e) Alone e k)) k
-  link_stmt m (TryCatch loc xs catch) k = counted_stmt m loc (λ k. two (TryCatch loc) (link_stmts m xs k) (link_catch m catch)) k
-  link_stmt m (TryFinally loc xs ys) k = counted_stmt m loc (λ k. two (TryFinally loc) (link_stmts m xs k) (link_stmts m ys)) k
-  link_stmt m (TryCatchFinally loc xs catch ys) k = counted_stmt m loc (λ k. three (TryCatchFinally loc) (link_stmts m xs k) (link_catch m catch) (link_stmts m ys)) k
-  link_stmt m (Debugger loc) k = counted_stmt m loc (λ k. kept (Debugger loc) k) k
-  link_stmt m (FunctionDeclaration loc name function) k = made (FunctionDeclaration loc name) (link_function m loc (Some name) function k)
-  link_stmt m (EnteredStmt mark x) k = link_stmt m x k
+  link_stmt m (tree.DoWhile loc x e) k = counted_stmt m loc (λ k. two (tree.DoWhile loc) (link_stmt (at_stmt m x) x k) (link_expr (at_expr m e) Alone e)) k
+  link_stmt m (tree.While loc e x) k = counted_stmt m loc (λ k. two (tree.While loc) (link_expr (at_expr m e) Alone e k) (link_stmt (at_stmt m x) x)) k
+  link_stmt m (tree.For loc init e f x) k = counted_stmt m loc (λ k. four (tree.For loc) (link_for_init m init k) (link_expr_if m e) (link_expr_if m f) (link_stmt (at_stmt m x) x)) k
+  link_stmt m (tree.ForIn loc target e x) k = counted_stmt m loc (λ k. three (tree.ForIn loc) (link_for_target m target k) (link_expr (at_expr m e) Alone e) (link_stmt (at_stmt m x) x)) k
+  link_stmt m (tree.ForOf loc target e x) k = counted_stmt m loc (λ k. three (tree.ForOf loc) (link_for_target m target k) (link_expr (at_expr m e) Alone e) (link_stmt (at_stmt m x) x)) k
+  link_stmt m (tree.Continue loc name) k = counted_stmt m loc (λ k. kept (tree.Continue loc name) k) k
+  link_stmt m (tree.Break loc name) k = counted_stmt m loc (λ k. kept (tree.Break loc name) k) k
+  link_stmt m (tree.Return loc e) k = counted_stmt m loc (λ k. made (tree.Return loc) (link_expr_if m e k)) k
+  link_stmt m (tree.Switch loc e cases) k = counted_stmt m loc (λ k. branched m loc
+      (λ b k. two (tree.Switch loc) (link_expr (at_expr m e) Alone e k) (link_cases m b 0 cases)) k) k
+  link_stmt m (tree.Labelled loc name x) k = counted_stmt m loc (λ k. made (labelled loc name) (link_stmt (at_stmt m x) x k)) k
+  link_stmt m (tree.Throw loc e) k = counted_stmt m loc (λ k. made (tree.Throw loc) (link_expr (at_expr m e) Alone e k)) k
+  link_stmt m (tree.TryCatch loc xs catch) k = counted_stmt m loc (λ k. two (tree.TryCatch loc) (link_stmts m xs k) (link_catch m catch)) k
+  link_stmt m (tree.TryFinally loc xs ys) k = counted_stmt m loc (λ k. two (tree.TryFinally loc) (link_stmts m xs k) (link_stmts m ys)) k
+  link_stmt m (tree.TryCatchFinally loc xs catch ys) k = counted_stmt m loc (λ k. three (tree.TryCatchFinally loc) (link_stmts m xs k) (link_catch m catch) (link_stmts m ys)) k
+  link_stmt m (tree.Debugger loc) k = counted_stmt m loc (λ k. kept (tree.Debugger loc) k) k
+  link_stmt m (tree.FunctionDeclaration loc name function) k = made (tree.FunctionDeclaration loc name) (link_function m loc (Some name) function k)
+  link_stmt m (tree.EnteredStmt mark x) k = link_stmt m x k
 
   pub link_property : Marking → Property → Numbers → Linked Property
-  link_property m (Shorthand loc text) k = kept (Shorthand loc text) k
-  link_property m (KeyValue loc key e) k = two (KeyValue loc) (link_property_key m key k) (link_expr (at_expr m e) Alone e)
-  link_property m (Method loc key (MakeFunction number params body)) k = counting m construct_kind.Function (function_place loc None (braced_place body))
-      (λ c k. three (λ key' ps b. Method loc key' (MakeFunction k.code ps (enter_body c b)))
+  link_property m (tree.Shorthand loc text) k = kept (tree.Shorthand loc text) k
+  link_property m (tree.KeyValue loc key e) k = two (tree.KeyValue loc) (link_property_key m key k) (link_expr (at_expr m e) Alone e)
+  link_property m (tree.Method loc key (tree.MakeFunction number params body)) k = counting m construct_kind.Function (function_place loc None (braced_place body))
+      (λ c k. three (λ key' ps b. tree.Method loc key' (tree.MakeFunction k.code ps (enter_body c b)))
       (link_property_key m key (after_code k)) (link_params m params) (link_function_body m body)) k
 
   pub link_property_key : Marking → PropertyKey → Numbers → Linked PropertyKey
-  link_property_key m (NameKey text) k = kept (NameKey text) k
-  link_property_key m (StringKey spelled) k = kept (StringKey spelled) k
-  link_property_key m (NumberKey text) k = kept (NumberKey text) k
-  link_property_key m (ComputedKey e) k = made ComputedKey (link_expr (at_expr m e) Alone e k)
+  link_property_key m (tree.NameKey text) k = kept (tree.NameKey text) k
+  link_property_key m (tree.StringKey spelled) k = kept (tree.StringKey spelled) k
+  link_property_key m (tree.NumberKey text) k = kept (tree.NumberKey text) k
+  link_property_key m (tree.ComputedKey e) k = made tree.ComputedKey (link_expr (at_expr m e) Alone e k)
 
   pub link_concise_body : Marking → ConciseBody → Numbers → Linked ConciseBody
-  link_concise_body m (ExpressionBody e) k = made ExpressionBody (counted_expr (at_expr m e) (bare_place e) (link_expr (at_expr m e) Alone e) k)
-  link_concise_body m (BlockBody body) k = made BlockBody (link_function_body m body k)
+  link_concise_body m (tree.ExpressionBody e) k = made tree.ExpressionBody (counted_expr (at_expr m e) (bare_place e) (link_expr (at_expr m e) Alone e) k)
+  link_concise_body m (tree.BlockBody body) k = made tree.BlockBody (link_function_body m body k)
 
   pub link_for_init : Marking → ForInit → Numbers → Linked ForInit
-  link_for_init m NoInit k = kept NoInit k
-  link_for_init m (InitDeclaration kind declarators) k = made (InitDeclaration kind) (link_declarators m declarators k)
-  link_for_init m (InitExpression e) k = made InitExpression (link_expr (at_expr m e) Alone e k)
+  link_for_init m tree.NoInit k = kept tree.NoInit k
+  link_for_init m (tree.InitDeclaration kind declarators) k = made (tree.InitDeclaration kind) (link_declarators m declarators k)
+  link_for_init m (tree.InitExpression e) k = made tree.InitExpression (link_expr (at_expr m e) Alone e k)
 
   pub link_for_target : Marking → ForTarget → Numbers → Linked ForTarget
-  link_for_target m (TargetDeclaration kind pattern) k = kept (TargetDeclaration kind pattern) k
-  link_for_target m (TargetExpression e) k = made TargetExpression (link_expr (at_expr m e) Alone e k)
+  link_for_target m (tree.TargetDeclaration kind pattern) k = kept (tree.TargetDeclaration kind pattern) k
+  link_for_target m (tree.TargetExpression e) k = made tree.TargetExpression (link_expr (at_expr m e) Alone e k)
 
   pub link_template_part : Marking → TemplatePart → Numbers → Linked TemplatePart
-  link_template_part m (MakeTemplatePart e spelled) k = made (λ e'. MakeTemplatePart e' spelled) (link_expr (at_expr m e) Alone e k)
+  link_template_part m (tree.MakeTemplatePart e spelled) k = made (λ e'. tree.MakeTemplatePart e' spelled) (link_expr (at_expr m e) Alone e k)
 
   pub link_function : Marking → Option Loc → Option Identifier → Function → Numbers → Linked Function
-  link_function m loc name (MakeFunction number params body) k =
-      numbered_function m (function_place loc name (braced_place body)) (λ code c ps b. MakeFunction code ps (enter_body c b))
+  link_function m loc name (tree.MakeFunction number params body) k =
+      numbered_function m (function_place loc name (braced_place body)) (λ code c ps b. tree.MakeFunction code ps (enter_body c b))
       (link_params m params) (link_function_body m body) k
 
   pub link_function_body : Marking → FunctionBody → Numbers → Linked FunctionBody
-  link_function_body m (MakeFunctionBody loc xs) k = made (MakeFunctionBody loc) (link_stmts m xs k)
-  link_function_body m (EnteredBody mark body) k = link_function_body m body k
+  link_function_body m (tree.MakeFunctionBody loc xs) k = made (tree.MakeFunctionBody loc) (link_stmts m xs k)
+  link_function_body m (tree.EnteredBody mark body) k = link_function_body m body k
 
   pub link_param : Marking → Param → Numbers → Linked Param
-  link_param m (MakeParam loc pattern none_expr) k = kept (MakeParam loc pattern none_expr) k
-  link_param m (MakeParam loc pattern (some_expr e)) k = branched m loc
-      (λ b k. made (λ e'. MakeParam loc pattern (some_expr (enter_expr (by_path (at_expr m e) b) 0 e'))) (link_expr (at_expr m e) Alone e k)) k
+  link_param m (tree.MakeParam loc pattern tree.none_expr) k = kept (tree.MakeParam loc pattern tree.none_expr) k
+  link_param m (tree.MakeParam loc pattern (tree.some_expr e)) k = branched m loc
+      (λ b k. made (λ e'. tree.MakeParam loc pattern (tree.some_expr (enter_expr (by_path (at_expr m e) b) 0 e'))) (link_expr (at_expr m e) Alone e k)) k
 
   pub link_declarator : Marking → Declarator → Numbers → Linked Declarator
-  link_declarator m (MakeDeclarator loc pattern none_expr) k = kept (MakeDeclarator loc pattern none_expr) k
-  link_declarator m (MakeDeclarator loc pattern (some_expr e)) k =
-      made (λ e'. MakeDeclarator loc pattern (some_expr e')) (counted_expr (at_expr m e) (bare_place e) (link_expr (at_expr m e) Alone e) k)
+  link_declarator m (tree.MakeDeclarator loc pattern tree.none_expr) k = kept (tree.MakeDeclarator loc pattern tree.none_expr) k
+  link_declarator m (tree.MakeDeclarator loc pattern (tree.some_expr e)) k =
+      made (λ e'. tree.MakeDeclarator loc pattern (tree.some_expr e')) (counted_expr (at_expr m e) (bare_place e) (link_expr (at_expr m e) Alone e) k)
 
   pub link_case : Marking → Case → Numbers → Linked Case
-  link_case m (MakeCase loc e xs) k = two (MakeCase loc) (link_expr_if m e k) (link_stmts m xs)
-  link_case m (EnteredCase mark x) k = link_case m x k
+  link_case m (tree.MakeCase loc e xs) k = two (tree.MakeCase loc) (link_expr_if m e k) (link_stmts m xs)
+  link_case m (tree.EnteredCase mark x) k = link_case m x k
 
   pub link_catch : Marking → Catch → Numbers → Linked Catch
-  link_catch m (MakeCatch pattern xs) k = made (MakeCatch pattern) (link_stmts m xs k)
+  link_catch m (tree.MakeCatch pattern xs) k = made (tree.MakeCatch pattern) (link_stmts m xs k)
 
   pub link_expr_if : Marking → MaybeExpr → Numbers → Linked MaybeExpr
-  link_expr_if m none_expr k = kept none_expr k
-  link_expr_if m (some_expr e) k = made some_expr (link_expr (at_expr m e) Alone e k)
+  link_expr_if m tree.none_expr k = kept tree.none_expr k
+  link_expr_if m (tree.some_expr e) k = made tree.some_expr (link_expr (at_expr m e) Alone e k)
 
   pub link_stmt_if : Marking → MaybeStmt → Numbers → Linked MaybeStmt
-  link_stmt_if m none_stmt k = kept none_stmt k
-  link_stmt_if m (some_stmt x) k = made some_stmt (link_stmt m x k)
-  link_stmt_if m (entered_none mark) k = kept none_stmt k
+  link_stmt_if m tree.none_stmt k = kept tree.none_stmt k
+  link_stmt_if m (tree.some_stmt x) k = made tree.some_stmt (link_stmt m x k)
+  link_stmt_if m (tree.entered_none mark) k = kept tree.none_stmt k
 
   pub link_exprs : Marking → Exprs → Numbers → Linked Exprs
-  link_exprs m no_expr k = kept no_expr k
-  link_exprs m (more_expr x xs) k = two more_expr (link_expr (at_expr m x) Alone x k) (link_exprs m xs)
+  link_exprs m tree.no_expr k = kept tree.no_expr k
+  link_exprs m (tree.more_expr x xs) k = two tree.more_expr (link_expr (at_expr m x) Alone x k) (link_exprs m xs)
 
   pub link_template_parts : Marking → TemplateParts → Numbers → Linked TemplateParts
-  link_template_parts m no_template_part k = kept no_template_part k
-  link_template_parts m (more_template_part x xs) k = two more_template_part (link_template_part m x k) (link_template_parts m xs)
+  link_template_parts m tree.no_template_part k = kept tree.no_template_part k
+  link_template_parts m (tree.more_template_part x xs) k = two tree.more_template_part (link_template_part m x k) (link_template_parts m xs)
 
   pub link_properties : Marking → Properties → Numbers → Linked Properties
-  link_properties m no_property k = kept no_property k
-  link_properties m (more_property x xs) k = two more_property (link_property (at_property m x) x k) (link_properties m xs)
+  link_properties m tree.no_property k = kept tree.no_property k
+  link_properties m (tree.more_property x xs) k = two tree.more_property (link_property (at_property m x) x k) (link_properties m xs)
 
   pub link_params : Marking → Params → Numbers → Linked Params
-  link_params m no_param k = kept no_param k
-  link_params m (more_param x xs) k = two more_param (link_param (at_param m x) x k) (link_params m xs)
+  link_params m tree.no_param k = kept tree.no_param k
+  link_params m (tree.more_param x xs) k = two tree.more_param (link_param (at_param m x) x k) (link_params m xs)
 
   pub link_stmts : Marking → Stmts → Numbers → Linked Stmts
-  link_stmts m no_stmt k = kept no_stmt k
-  link_stmts m (more_stmt x xs) k = two more_stmt (link_stmt (at_stmt m x) x k) (link_stmts m xs)
+  link_stmts m tree.no_stmt k = kept tree.no_stmt k
+  link_stmts m (tree.more_stmt x xs) k = two tree.more_stmt (link_stmt (at_stmt m x) x k) (link_stmts m xs)
 
   pub link_declarators : Marking → Declarators → Numbers → Linked Declarators
-  link_declarators m no_declarator k = kept no_declarator k
-  link_declarators m (more_declarator x xs) k = two more_declarator (link_declarator (at_declarator m x) x k) (link_declarators m xs)
+  link_declarators m tree.no_declarator k = kept tree.no_declarator k
+  link_declarators m (tree.more_declarator x xs) k = two tree.more_declarator (link_declarator (at_declarator m x) x k) (link_declarators m xs)
 
   pub link_cases : Marking → Marks → ℕ → Cases → Numbers → Linked Cases
-  link_cases m b path no_case k = kept no_case k
-  link_cases m b path (more_case x xs) k = two (λ x' xs'. more_case (enter_case (by_path (at_case m x) b) path x') xs')
+  link_cases m b path tree.no_case k = kept tree.no_case k
+  link_cases m b path (tree.more_case x xs) k = two (λ x' xs'. tree.more_case (enter_case (by_path (at_case m x) b) path x') xs')
       (link_case (at_case m x) x k) (link_cases m b (past_path (at_case m x) path) xs)
 
 abbrev pub link_file : Marking → File → Numbers → Linked File
-link_file m (MakeFile body comments) k = made (λ body'. MakeFile body' comments) (link_stmts (with_comments m comments) body k)
+link_file m (tree.MakeFile body comments) k = made (λ body'. tree.MakeFile body' comments) (link_stmts (with_comments m comments) body k)
