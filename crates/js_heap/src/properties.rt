@@ -152,8 +152,17 @@ impl Properties {
         }
     }
 
-    /// Takes the properties of this key away. That goes along the whole list and the whole index.
+    /// Takes the properties of this key away. Where there is none nothing is gone along.
     pub fn remove(&mut self, key: &Str)
+        ensures { self.new.items.items ≡ filter (λ p. not (bytes_eq p.key key.now)) self.old.items.items }
+    {
+        if self.place_of(key).is_some() {
+            self.take_out(key);
+        }
+    }
+
+    /// The same, along the whole list and the whole index.
+    fn take_out(&mut self, key: &Str)
         ensures { self.new.items.items ≡ filter (λ p. not (bytes_eq p.key key.now)) self.old.items.items }
     {
         let index = self.index.take();

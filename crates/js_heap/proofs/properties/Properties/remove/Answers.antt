@@ -1,31 +1,9 @@
-use Rattle.std.proofs.Common.{◌≡◌, not, filter, map, sym, ap, ◌∙◌, rules}
-use Rattle.std.specs.Str.{bytes_eq}
-use Rattle.std.proofs.lemmas.Fn.{filter_same}
-use Rattle.js_heap.specs.declared.object.Property.{Property}
-use Rattle.indexmap.specs.IndexSet.{keys}
-use Rattle.js_heap.proofs.Lists.{filter-map}
+use Rattle.std.proofs.Common.{◌≡◌, false, is_some, sym, ◌∙◌, arith}
+use Rattle.js_heap.proofs.Lists.{not_there, filter-absent}
+use Rattle.js_heap.proofs.ObjectLemmas.{has_key}
 use Rattle.js_heap.proofs.properties.Properties.remove.Goals as goal
 
-pub invariant_of-self : goal.invariant_of-self
-invariant_of-self c =
-    let key = c.args.key.now in
-    let ps = c.args.self.now.items.items in
-    let kept = filter_same _ (λ (p : Property). not (bytes_eq p.key key)) _ (λ x b f t. search rules) _ _ c.retain.ensures.filtered in
-    record {
-      indexed = λ i is.
-          let same : c.without_key.result ≡ i = cc in
-          ap (λ b. keys b.value) (sym same) ∙ c.without_key.ensures
-          ∙ ap (filter (λ k. not (bytes_eq k key))) (c.args.self.now.indexed c.in-Some.index (sym c.in-Some.ensures.value))
-          ∙ sym (filter-map (λ k. not (bytes_eq k key)) (λ (p : Property). p.key) ps)
-          ∙ ap (map (λ (p : Property). p.key)) (sym kept);
-    }
-
-pub returns-in-Some : goal.returns-in-Some
-returns-in-Some c =
-    let key = c.args.key.now in
-    filter_same _ (λ (p : Property). not (bytes_eq p.key key)) _ (λ x b f t. search rules) _ _ c.retain.ensures.filtered
-
-pub returns-in_default : goal.returns-in_default
-returns-in_default c =
-    let key = c.args.key.now in
-    filter_same _ (λ (p : Property). not (bytes_eq p.key key)) _ (λ x b f t. search rules) _ _ c.retain.ensures.filtered
+pub returns-else-is_some : goal.returns-else-is_some
+returns-else-is_some c =
+    let none : is_some c.place_of.result ≡ false = grind (arith, c.is_some.ensures, c.if-is_some.ensures, c.if-is_some.false) in
+    sym (filter-absent (has_key c.args.key.now) c.args.self.now.items.items (sym c.place_of.ensures ∙ not_there c.place_of.result none))
