@@ -30,6 +30,7 @@ at_any_name c = at_property c
 -- a name to bind is due
 abbrev pub at_bound_name : Config → Bool
 at_bound_name (Due f w (Text BoundName ∷ ss) ps l fs) = true
+at_bound_name (Due f w (By slot.FunctionName ∷ ss) ps l fs) = true
 at_bound_name (Due f w (By slot.Parameters ∷ ss) ps l fs) = true
 at_bound_name c = false
 

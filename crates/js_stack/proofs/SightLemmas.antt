@@ -53,6 +53,7 @@ pub bound_name_is : (f : Form) (w : Loc) (ss : List Slot) (ps : List plain.Piece
 bound_name_is f w [] ps l fs = refl
 bound_name_is f w (slot.Text class.BoundName ∷ ss) ps l fs = refl
 bound_name_is f w (slot.Text c ∷ ss) ps l fs = refl
+bound_name_is f w (slot.By choice.FunctionName ∷ ss) ps l fs = refl
 bound_name_is f w (slot.By choice.Parameters ∷ ss) ps l fs = refl
 bound_name_is f w (slot.By c ∷ ss) ps l fs = refl
 bound_name_is f w (s ∷ ss) ps l fs = refl

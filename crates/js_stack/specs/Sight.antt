@@ -66,6 +66,7 @@ any_name_next s = property_next s
 
 abbrev pub bound_name_next : Option Slot → Bool
 bound_name_next (Some (Text class.BoundName)) = true
+bound_name_next (Some (By choice.FunctionName)) = true
 bound_name_next (Some (By choice.Parameters)) = true
 bound_name_next s = false
 

@@ -118,6 +118,7 @@ fn bound_name_next(next: Option<Slot>) -> bool
 {
     match next {
         Some(Slot::Text(Class::BoundName)) => true,
+        Some(Slot::By(Choice::FunctionName)) => true,
         Some(Slot::By(Choice::Parameters)) => true,
         _ => false,
     }

@@ -303,9 +303,20 @@ elision_stops t (Item (InItems slot.ArrayLiteral w p ss ps xs ∷ fs)) ts fine i
     first_stops (Item (InItems slot.ArrayLiteral w p ss ps xs ∷ fs)) t ts (none_of (turn (Item (InItems slot.ArrayLiteral w p ss ps xs ∷ fs)) t) (λ d h. by_bool (is_mark p t) _ _ d (λ c g. true≢false (sym c ∙ q.0)) (λ c g. leads_nowhere (q.1 _) g) h))
 elision_stops t c ts fine is at = absurd (true≢false (sym at))
 
-binding_stops : (t : Token) (c : Config) (ts : List Token) → at_bound_name c ≡ true → ((f : Form) (w : Loc) (ss : List Slot) (ps : List Piece) (l : Loc) (fs : List Frame) → (turn (Due f w (Text BoundName ∷ ss) ps l fs) t ≡ None) × (turn (Due f w (By slot.Parameters ∷ ss) ps l fs) t ≡ None)) → run c (t ∷ ts) ≡ None
+-- no name to bind
+abbrev Unnamed : Token → Type 0
+Unnamed t = (f : Form) (w : Loc) (ss : List Slot) (ps : List Piece) (l : Loc) (fs : List Frame) → (turn (Due f w (Text BoundName ∷ ss) ps l fs) t ≡ None) × (turn (Due f w (By slot.FunctionName ∷ ss) ps l fs) t ≡ None) × (turn (Due f w (By slot.Parameters ∷ ss) ps l fs) t ≡ None)
+
+unnamed_bracket : (t : Token) → Unnamed (remade t (T.Punctuator P.OpenBracket))
+unnamed_bracket t f w ss ps l fs = (refl, refl, refl)
+
+unnamed_brace : (t : Token) → Unnamed (remade t (T.Punctuator P.OpenBrace))
+unnamed_brace t f w ss ps l fs = (refl, refl, refl)
+
+binding_stops : (t : Token) (c : Config) (ts : List Token) → at_bound_name c ≡ true → Unnamed t → run c (t ∷ ts) ≡ None
 binding_stops t (Due f w (Text BoundName ∷ ss) ps l fs) ts at go = first_stops (Due f w (Text BoundName ∷ ss) ps l fs) t ts (go f w ss ps l fs).0
-binding_stops t (Due f w (By slot.Parameters ∷ ss) ps l fs) ts at go = first_stops (Due f w (By slot.Parameters ∷ ss) ps l fs) t ts (go f w ss ps l fs).1
+binding_stops t (Due f w (By slot.FunctionName ∷ ss) ps l fs) ts at go = first_stops (Due f w (By slot.FunctionName ∷ ss) ps l fs) t ts (go f w ss ps l fs).1
+binding_stops t (Due f w (By slot.Parameters ∷ ss) ps l fs) ts at go = first_stops (Due f w (By slot.Parameters ∷ ss) ps l fs) t ts (go f w ss ps l fs).2
 binding_stops t c ts at go = absurd (true≢false (sym at))
 
 -- ---- a template after what it would be a part of
@@ -470,8 +481,8 @@ stops_there u c us fine (Unsupported.elision {t = t} {ts = ts} is at) = elision_
 stops_there u c us fine (Unsupported.tagged_template {t = t} {ts = ts} is at) = template_stops t c ts fine is at
 stops_there u c us fine (Unsupported.binding {t = t} {ts = ts} is at) =
     either_of (is_mark P.OpenBracket t) (is_mark P.OpenBrace t) is
-    (λ q. binding_stops t c ts at (λ f w ss ps l fs. of_kind (λ s. (turn (Due f w (Text BoundName ∷ ss) ps l fs) s ≡ None) × (turn (Due f w (By slot.Parameters ∷ ss) ps l fs) s ≡ None)) t (T.Punctuator P.OpenBracket) (mark_is P.OpenBracket t q) (refl, refl)))
-    (λ q. binding_stops t c ts at (λ f w ss ps l fs. of_kind (λ s. (turn (Due f w (Text BoundName ∷ ss) ps l fs) s ≡ None) × (turn (Due f w (By slot.Parameters ∷ ss) ps l fs) s ≡ None)) t (T.Punctuator P.OpenBrace) (mark_is P.OpenBrace t q) (refl, refl)))
+    (λ q. binding_stops t c ts at (of_kind Unnamed t (T.Punctuator P.OpenBracket) (mark_is P.OpenBracket t q) (unnamed_bracket t)))
+    (λ q. binding_stops t c ts at (of_kind Unnamed t (T.Punctuator P.OpenBrace) (mark_is P.OpenBrace t q) (unnamed_brace t)))
 stops_there u c us fine (Unsupported.shorthand {t = t} {sign = sign} {ts = ts} name at is) = shorthand_stops t sign c ts name at (mark_is P.Assign sign is)
 stops_there u c us fine (Unsupported.target_after {i = i} {e = e} {l = l} {t = t} {te = te} f fs next ts begins fit de is at go) = let a = parenthesized_facts e is in updated_stops c i e l t te f fs next ts begins fit de a.0 a.1 at go
 
