@@ -4,6 +4,7 @@ use Rattle.js_terms.specs.declared.place.Loc.{Loc}
 use Rattle.js_lexer.specs.Token.{plain_token}
 use Rattle.js_text.specs.Token.{Token}
 use Rattle.js_reading.specs.Turns.{Config}
+use Rattle.js_reading.specs.Unsupported.{in_no_function}
 use Rattle.js_reading.specs.Found.{Turns, group, parameter, asyncs, starts}
 use Rattle.js_stack.specs.Sight.{Sees, callee}
 use Rattle.js_parser.specs.declared.recent.Turn.{Turn}
@@ -29,4 +30,4 @@ Remembers recent turns = Recalls recent.last turns × Recalls recent.before (bef
 
 -- what is said of a place where this token is next
 abbrev pub Saw : Seen → Config → Token → Type 0
-Saw seen c t = Sees seen.sight c × (seen.group ≡ group c t) × (seen.parameter ≡ parameter c t) × (seen.callee ≡ callee c)
+Saw seen c t = Sees seen.sight c × (seen.group ≡ group c t) × (seen.parameter ≡ parameter c t) × (seen.callee ≡ callee c) × (seen.outside ≡ in_no_function c)

@@ -6,7 +6,6 @@ ghost use Rattle.js_reading.specs.declared.class.Class.TheVariants as slot;
 ghost use Rattle.js_reading.specs.Productions as productions;
 ghost use Rattle.js_reading.specs.Turns.{Config};
 ghost use Rattle.js_reading.specs.Unsupported as unsupported;
-ghost use Rattle.js_reading.specs.declared.unsupported.Unsupported.TheVariants.{ThisOutside};
 ghost use Rattle.js_reading.specs.Found as spec;
 ghost use Rattle.js_stack.specs.Sight.{Sees};
 
@@ -356,13 +355,10 @@ pub(crate) fn arrow_after(asyncs: &[Loc], callee: Option<Loc>, token: Token<'_>)
     }
 }
 
-/// `this` where an expression begins in no function.
-pub(crate) fn this_outside(outside: bool, token: Token<'_>) -> Find
-    ensures { result ≡ spec.when (productions.is_word (codes "this") (plain_token token.entry) && outside) ThisOutside (plain_token token.entry).loc }
+/// `this`, where the place is in no function or in one.
+pub(crate) fn this_outside(sight: Sight, outside: bool, token: Token<'_>) -> Find
+    ensures { (c : Config) → Sees sight c → outside ≡ unsupported.in_no_function c → result ≡ spec.outside c (plain_token token.entry) }
 {
-    when(
-        is_word("this", token) && outside,
-        Unsupported::ThisOutside,
-        token,
-    )
+    let found = is_free(sight.at_any_name, "this", token) && outside;
+    when(found, Unsupported::ThisOutside, token)
 }

@@ -130,7 +130,7 @@ fn turn<'a>(
         let found = found_beyond(alloc, recent, seen, token, lexer);
         return Err(refused(text, at, found));
     }
-    match found_read(alloc, recent, seen, reader.outside(), token) {
+    match found_read(alloc, recent, seen, token) {
         Ok(None) => {}
         Ok(Some(find)) => return Err(left_out(text, at, find)),
         Err(_) => {

@@ -8,7 +8,6 @@ ghost use Rattle.js_reading.specs.Reads.{one_met, next_two};
 ghost use Rattle.js_reading.specs.Turns.{Config};
 ghost use Rattle.js_reading.specs.Turns as turns;
 ghost use Rattle.js_stack.specs.Reader.{machine};
-ghost use Rattle.js_stack.specs.Sight as sights;
 ghost use Rattle.js_stack.specs.Sight.{Sees};
 ghost use Rattle.js_parser.specs.Recent.{Remembers, Saw};
 
@@ -30,6 +29,8 @@ pub(crate) struct Seen {
     parameter: Find,
     /// The name whose arguments are whole.
     callee: Option<Loc>,
+    /// Whether the place is in no function but arrows.
+    outside: bool,
 }
 
 /// What a reader says of its place, where this token is next.
@@ -41,23 +42,23 @@ pub(crate) fn see(reader: &Reader, token: Token<'_>) -> Seen
         group: reader.group(token),
         parameter: reader.parameter(token),
         callee: reader.callee(),
+        outside: reader.outside(),
     }
 }
 
-/// What is found with a token that is read, where after it an expression is outside every function or not.
+/// What is found with a token that is read.
 pub(crate) fn found_read(
     alloc: Global,
     recent: &Recent<'_>,
     seen: Seen,
-    outside: bool,
     token: Token<'_>,
 ) -> Result<Find, Memory>
-    ensures { IfOk result (λ find. (ts : List T.Token) (before : spec.Turns) (c d : Config) → Remembers recent.now before → Saw seen c (plain_token token.entry) → outside ≡ sights.outside d
+    ensures { IfOk result (λ find. (ts : List T.Token) (before : spec.Turns) (c d : Config) → Remembers recent.now before → Saw seen c (plain_token token.entry)
         → spec.Searched ts before c → turns.turn c (plain_token token.entry) ≡ Some d → find ≡ spec.found before c (plain_token token.entry)) }
 {
     Ok(
         seen.group
-            .or(this_outside(outside, token))
+            .or(this_outside(seen.sight, seen.outside, token))
             .or(recent.proto_back(alloc, token)?)
             .or(seen.parameter),
     )
@@ -71,7 +72,7 @@ fn found_refused(
     token: Token<'_>,
 ) -> Result<Find, Memory>
     ensures { IfOk result (λ find. (before : spec.Turns) (c : Config) → Remembers recent.now before → Saw seen c (plain_token token.entry)
-        → turns.turn c (plain_token token.entry) ≡ None → find ≡ spec.found before c (plain_token token.entry)) }
+        → find ≡ spec.found before c (plain_token token.entry)) }
 {
     Ok(
         recent
@@ -79,6 +80,7 @@ fn found_refused(
             .or(recent.three_back(alloc, token)?)
             .or(one(seen.sight, token))
             .or(seen.group)
+            .or(this_outside(seen.sight, seen.outside, token))
             .or(recent.called(seen.callee, token))
             .or(recent.proto_back(alloc, token)?)
             .or(seen.parameter),
@@ -131,7 +133,7 @@ pub(crate) fn found_beyond(
     token: Token<'_>,
     lexer: &mut Lexer<'_>,
 ) -> Result<Find, Memory>
-    ensures { IfOk result (λ find. (before : spec.Turns) (c : Config) → Remembers recent.now before → Saw seen c (plain_token token.entry) → turns.turn c (plain_token token.entry) ≡ None
+    ensures { IfOk result (λ find. (before : spec.Turns) (c : Config) → Remembers recent.now before → Saw seen c (plain_token token.entry)
         → find ≡ spec.or_else (spec.found before c (plain_token token.entry)) (spec.ahead before c (plain_token token.entry) (next_two lexer.old))) }
 {
     let found = found_refused(alloc, recent, seen, token)?;

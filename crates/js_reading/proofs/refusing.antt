@@ -2,6 +2,7 @@ pub mod Arrows
 pub mod Callees
 pub mod Dooms
 pub mod Endless
+pub mod OuterFree
 pub mod OuterKept
 pub mod OuterMade
 pub mod Parameters

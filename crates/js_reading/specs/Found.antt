@@ -14,8 +14,8 @@ use Rattle.js_reading.specs.Slots as slot
 use Rattle.js_reading.specs.Productions.{is_mark, is_word, is_class, is_proto_word, join}
 use Rattle.js_reading.specs.Makes.{build}
 use Rattle.js_reading.specs.Sentences.{fits, continues}
-use Rattle.js_reading.specs.Turns.{Config, Due, Have, Start, Frame, wanted, turn, run}
-use Rattle.js_reading.specs.Unsupported.{Unsupported, ClassForm, Super, Import, Export, NewTarget, Spread, OptionalChain, LogicalAssignment, Async, Generator, Accessor, BigIntLiteral, ThisOutside, Elision, Proto, TaggedTemplate, ParenthesizedTarget, BindingPattern, Begins, at_property, at_any_name, at_bound_name, at_item, after_tight, in_function, is_template, is_bigint, assigns, is_each, is_head, is_update, is_parenthesized_target, is_literal_pattern}
+use Rattle.js_reading.specs.Turns.{Config, Due, Start, Frame, wanted, turn, run}
+use Rattle.js_reading.specs.Unsupported.{Unsupported, ClassForm, Super, Import, Export, NewTarget, Spread, OptionalChain, LogicalAssignment, Async, Generator, Accessor, BigIntLiteral, ThisOutside, Elision, Proto, TaggedTemplate, ParenthesizedTarget, BindingPattern, Begins, at_property, at_any_name, at_bound_name, at_item, after_tight, in_no_function, is_template, is_bigint, assigns, is_each, is_head, is_update, is_parenthesized_target, is_literal_pattern}
 
 -- a form, and where its first token stands
 abbrev pub Find : Type 0
@@ -155,11 +155,10 @@ abbrev pub parameter : Config → Token → Find
 parameter (Due slot.Parentheses w (By slot.Arrow ∷ []) (TheExprs b xs ∷ []) l fs) t = before_body (literal_item xs) t
 parameter c t = None
 
--- ---- `this`, from the place after it
+-- ---- `this` in no function
 
-abbrev pub outside : Option Config → Token → Find
-outside (Some (Have p l fs)) t = when (is_word (codes "this") t && not (in_function fs)) ThisOutside t.loc
-outside d t = None
+abbrev pub outside : Config → Token → Find
+outside c t = when (is_free c t (codes "this") && in_no_function c) ThisOutside t.loc
 
 -- ---- a turn: the turns before it, the last first, each with the place before it
 
@@ -209,7 +208,7 @@ called turns c t = None
 
 -- what began at an earlier token comes first: a word after `get`, `set` or `async` is a key, and begins no form of its own
 abbrev pub finds : Turns → Config → Token → List Find
-finds turns c t = two_back turns t ∷ three_back turns t ∷ one c t ∷ group c t ∷ outside (turn c t) t ∷ called turns c t ∷ proto_back turns t ∷ parameter c t ∷ []
+finds turns c t = two_back turns t ∷ three_back turns t ∷ one c t ∷ group c t ∷ outside c t ∷ called turns c t ∷ proto_back turns t ∷ parameter c t ∷ []
 
 abbrev pub found : Turns → Config → Token → Find
 found turns c t = first_of (finds turns c t)

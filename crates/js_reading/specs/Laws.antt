@@ -77,7 +77,7 @@ TokensStandApart = (text : List ℕ) (ts : List Token) (end : Place) → Lexes (
 
 -- where the token is read, only a group, `this`, a key `__proto__` and a parameter may be found
 abbrev pub FindsFew : Type 0
-FindsFew = (ts : List Token) (turns : Turns) (c d : Config) (t : Token) → Searched ts turns c → turn c t ≡ Some d → found turns c t ≡ first_of (shown c d t ∷ outside (Some d) t ∷ proto_back turns t ∷ parameter c t ∷ [])
+FindsFew = (ts : List Token) (turns : Turns) (c d : Config) (t : Token) → Searched ts turns c → turn c t ≡ Some d → found turns c t ≡ first_of (shown c d t ∷ outside c t ∷ proto_back turns t ∷ parameter c t ∷ [])
 
 -- what is found begins a form, where it is said
 abbrev pub FindsOnlyBegun : Type 0

@@ -1,5 +1,5 @@
 -- The forms of the standard that the language leaves out, and what begins each: a token at a place, and those after it.
-use Rattle.std.specs.Prelude.{◌≡◌, ℕ, nat_le, Bool, true, false, ◌||◌, List, [], ◌∷◌, ◌++◌, Option, Some, codes}
+use Rattle.std.specs.Prelude.{◌≡◌, ℕ, nat_le, Bool, true, false, not, ◌||◌, List, [], ◌∷◌, ◌++◌, Option, Some, codes}
 use Rattle.js_terms.specs.declared.place.Loc.{Loc}
 use Rattle.js_tree.specs.Plain.{Expr, Exprs, more_expr}
 use Rattle.js_tree.specs.Plain as tree
@@ -87,6 +87,13 @@ in_function (InForm f w s ss ps ∷ fs) = in_own (is_function f) ps || in_functi
 in_function (InStmts f w ss ps xs ∷ fs) = in_own (is_function f) ps || in_function fs
 in_function (InItems f w p ss ps xs ∷ fs) = in_own (is_function f) ps || in_function fs
 in_function (f ∷ fs) = in_function fs
+
+-- a place in no function but arrows
+abbrev pub in_no_function : Config → Bool
+in_no_function (Due f w ss ps l fs) = not (in_own (is_function f) ps || in_function fs)
+in_no_function (Have p l fs) = not (in_function fs)
+in_no_function (Item fs) = not (in_function fs)
+in_no_function c = true
 
 -- ---- tokens
 
@@ -188,5 +195,5 @@ pub data Begins : Unsupported → Config → List Token → Type 0 where
   -- a literal that is a whole item of parentheses, where an arrow's body follows them
   parameter : {c : Config} {b : Bool} {e : Expr} {xs : Exprs} {t : Token} {tx : List Token} (f : Frame) (fs : List Frame) (closing arrow : Token) (ts : List Token) → turn c t ≡ want t (f ∷ fs) → takes_parameter f ≡ true → SpellsItems b (more_expr e xs) (t ∷ tx) closing → is_literal_pattern e ≡ true →
       is_mark P.CloseParenthesis closing ≡ true → is_mark P.Arrow arrow ≡ true → arrow.line_terminator_before ≡ false → Begins BindingPattern c (t ∷ (tx ++ closing ∷ arrow ∷ ts))
-  -- `this` where an expression begins in no function
-  this_outside : {c : Config} {t : Token} {ts : List Token} (fs : List Frame) → turn c t ≡ want t fs → is_word (codes "this") t ≡ true → in_function fs ≡ false → Begins ThisOutside c (t ∷ ts)
+  -- `this` in no function, wherever the word stands but as a key or a member's name
+  this_outside : {c : Config} {t : Token} {ts : List Token} → is_word (codes "this") t ≡ true → at_any_name c ≡ false → in_no_function c ≡ true → Begins ThisOutside c (t ∷ ts)

@@ -1,5 +1,5 @@
 -- What a place says of the next token, by the next of the slots that are left.
-use Rattle.std.proofs.Common.{◌≡◌, Bool, true, false, List, [], ◌∷◌, length, Some, None, refl, sym, ap, ◌∙◌, arith, codes}
+use Rattle.std.proofs.Common.{◌≡◌, false, List, [], ◌∷◌, length, Some, refl, sym, ap, ◌∙◌, arith}
 use Rattle.std.specs.Prelude.{◌==◌, ◌&&◌}
 use Rattle.std.specs.Option.{option_map}
 use Rattle.std.proofs.lemmas.Bool.{ne_eqb}
@@ -11,12 +11,9 @@ use Rattle.js_reading.specs.declared.choice.Choice.TheVariants as choice
 use Rattle.js_reading.specs.declared.form.Form.{Form}
 use Rattle.js_reading.specs.declared.form.Form.TheVariants as form
 use Rattle.js_reading.specs.Slots as plain
-use Rattle.js_reading.specs.Productions.{is_word}
-use Rattle.js_reading.specs.Turns.{Config, Due, Have, Item, Frame, InItems}
-use Rattle.js_reading.specs.declared.unsupported.Unsupported.TheVariants.{ThisOutside}
+use Rattle.js_reading.specs.Turns.{Config, Due, Item, Frame, InItems}
 use Rattle.js_reading.specs.Unsupported.{at_property, at_any_name, at_bound_name, at_item, operand_over}
-use Rattle.js_reading.specs.Found.{Turns, at_object, called, arrow_after, named_callee, when}
-use Rattle.js_reading.specs.Found as found
+use Rattle.js_reading.specs.Found.{Turns, at_object, called, arrow_after, named_callee}
 use Rattle.js_grammar.specs.declared.slot.Slot.{Slot}
 use Rattle.js_grammar.specs.declared.slot.Slot.TheVariants as slot
 use Rattle.js_grammar.specs.View.{plain_slot, plain_slots}
@@ -24,7 +21,7 @@ use Rattle.js_stack.specs.declared.production.Frame as code
 use Rattle.js_stack.specs.Left.{first_slot}
 use Rattle.js_stack.specs.Stack.{first_frame}
 use Rattle.js_stack.specs.View.{plain_frame, frames}
-use Rattle.js_stack.specs.Sight.{callee, outside, is_array, is_object, property_next, any_name_next, bound_name_next, items_next, tight_next, is_array_frame, array_in, named_by, due_callee}
+use Rattle.js_stack.specs.Sight.{callee, is_array, is_object, property_next, any_name_next, bound_name_next, items_next, tight_next, is_array_frame, array_in, named_by, due_callee}
 
 -- ---- where slots of a production are left
 
@@ -116,7 +113,7 @@ callee_is form.New w [] ps l fs = refl
 callee_is form.New w (s ∷ ss) ps l fs = refl
 callee_is f w ss ps l fs = refl
 
--- ---- what is found by it, and by the place after `this`
+-- ---- what is found by it
 
 pub called_is : (turns : Turns) (c : Config) (t : Token) → called turns c t ≡ arrow_after turns (callee c) t
 called_is turns (Due form.Call w [] ps l fs) t = refl
@@ -125,11 +122,3 @@ called_is turns (Due form.New w [] ps l fs) t = refl
 called_is turns (Due form.New w (s ∷ ss) ps l fs) t = refl
 called_is turns (Due f w ss ps l fs) t = refl
 called_is turns c t = refl
-
-this_false : (b : Bool) (l : Loc) → None ≡ when (b && false) ThisOutside l
-this_false true l = refl
-this_false false l = refl
-
-pub outside_is : (d : Config) (t : Token) → found.outside (Some d) t ≡ when (is_word (codes "this") t && outside d) ThisOutside t.loc
-outside_is (Have p l fs) t = refl
-outside_is d t = this_false (is_word (codes "this") t) t.loc

@@ -1,5 +1,5 @@
 -- What a reader says of the place before the next token, for finding the forms that are left out.
-use Rattle.std.specs.Prelude.{◌≡◌, Bool, true, false, not, ◌&&◌, List, [], ◌∷◌, Option, Some, None, if◌then◌else◌}
+use Rattle.std.specs.Prelude.{◌≡◌, Bool, true, false, ◌&&◌, List, [], ◌∷◌, Option, Some, None, if◌then◌else◌}
 use Rattle.js_terms.specs.declared.place.Loc.{Loc}
 use Rattle.js_tree.specs.Plain.{Expr}
 use Rattle.js_tree.specs.Plain as tree
@@ -8,8 +8,8 @@ use Rattle.js_reading.specs.declared.class.Class.TheVariants as class
 use Rattle.js_reading.specs.declared.form.Form.{Form}
 use Rattle.js_reading.specs.declared.form.Form.TheVariants as form
 use Rattle.js_reading.specs.Slots.{Slot, Text, Items_, Place_, By, Piece, AnExpr}
-use Rattle.js_reading.specs.Turns.{Config, Due, Have, Frame, InItems}
-use Rattle.js_reading.specs.Unsupported.{at_property, at_any_name, at_bound_name, at_item, after_tight, in_function, is_operand, is_parentheses}
+use Rattle.js_reading.specs.Turns.{Config, Due, Frame, InItems}
+use Rattle.js_reading.specs.Unsupported.{at_property, at_any_name, at_bound_name, at_item, after_tight, is_operand, is_parentheses}
 use Rattle.js_reading.specs.Found.{at_object, named_callee}
 use Rattle.js_stack.specs.declared.sight.Sight.{Sight}
 use Rattle.js_stack.specs.Groups.{is_items}
@@ -27,11 +27,6 @@ abbrev pub callee : Config → Option Loc
 callee (Due form.Call w [] ps l fs) = named_callee ps
 callee (Due form.New w [] ps l fs) = named_callee ps
 callee c = None
-
--- an expression stands there, in no function but arrows
-abbrev pub outside : Config → Bool
-outside (Have p l fs) = not (in_function fs)
-outside c = false
 
 -- the same where slots of a production are left
 abbrev pub SeesDue : Sight → Form → List Slot → Type 0

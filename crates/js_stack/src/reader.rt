@@ -4,6 +4,7 @@ ghost use Rattle.js_lexer.specs.Token.{plain_token};
 ghost use Rattle.js_reading.specs.Found as found;
 ghost use Rattle.js_reading.specs.Open as levels;
 ghost use Rattle.js_reading.specs.Turns as turns;
+ghost use Rattle.js_reading.specs.Unsupported as unsupported;
 ghost use Rattle.js_stack.specs.Reader.{machine, height_of, statements_of, Takes, ended};
 ghost use Rattle.js_stack.specs.Sight as sight;
 ghost use Rattle.js_stack.specs.Sight.{Sees};
@@ -131,9 +132,9 @@ impl Reader {
         callee(&self.place)
     }
 
-    /// Whether an expression stands there, in no function but arrows.
+    /// Whether the place is in no function but arrows.
     pub fn outside(&self) -> bool
-        ensures { result ≡ sight.outside (machine self.now) }
+        ensures { result ≡ unsupported.in_no_function (machine self.now) }
     {
         outside(&self.place, &self.stack)
     }

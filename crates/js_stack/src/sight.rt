@@ -12,7 +12,7 @@ ghost use Rattle.js_stack.specs.View.{config, frames, plain_frame};
 use crate::groups::is_items;
 use crate::left::Left;
 use crate::production::{Frame, Place, Production};
-use crate::stack::Stack;
+use crate::stack::{Stack, owns};
 use js_build::Piece;
 use js_grammar::Slot;
 use js_reading::{Choice, Class, Form};
@@ -279,12 +279,13 @@ pub(crate) fn callee(place: &Place) -> Option<Loc>
     }
 }
 
-/// Whether an expression stands there, in no function but arrows.
+/// Whether the place is in no function but arrows.
 pub(crate) fn outside(place: &Place, stack: &Stack) -> bool
-    ensures { result ≡ spec.outside (config place.now (frames stack.now)) }
+    ensures { result ≡ unsupported.in_no_function (config place.now (frames stack.now)) }
 {
     match place {
-        Place::Expression(_, _) | Place::Statement(_, _) => !stack.in_function(),
-        _ => false,
+        Place::Due(production, _) => !(owns(production) || stack.in_function()),
+        Place::Expression(_, _) | Place::Statement(_, _) | Place::Item => !stack.in_function(),
+        Place::Start | Place::Finished(_) => true,
     }
 }

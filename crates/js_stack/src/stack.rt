@@ -288,7 +288,7 @@ fn is_function(form: Form) -> bool
 }
 
 /// Whether the missing part of a production is a function's own.
-fn owns(production: &Production) -> bool
+pub(crate) fn owns(production: &Production) -> bool
     ensures { result ≡ unsupported.in_own (unsupported.is_function production.now.form) (plain_pieces production.now.parts) }
 {
     production.parts.own(is_function(production.form))

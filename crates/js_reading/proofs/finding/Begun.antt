@@ -11,7 +11,7 @@ use Rattle.js_reading.specs.Slots as slot
 use Rattle.js_reading.specs.Productions.{primary, is_mark, is_word, is_class, is_proto_word}
 use Rattle.js_reading.specs.Turns.{Frame, Config, Due, Have, Start, want, turn, run}
 use Rattle.js_reading.specs.Unsupported
-use Rattle.js_reading.specs.Unsupported.{Unsupported, ClassForm, Super, Import, Export, NewTarget, Spread, OptionalChain, LogicalAssignment, Async, Generator, Accessor, BigIntLiteral, ThisOutside, Elision, Proto, TaggedTemplate, BindingPattern, Begins, Stops, at_any_name, at_property, at_bound_name, at_item, after_tight, in_function, is_template, is_bigint}
+use Rattle.js_reading.specs.Unsupported.{Unsupported, ClassForm, Super, Import, Export, NewTarget, Spread, OptionalChain, LogicalAssignment, Async, Generator, Accessor, BigIntLiteral, ThisOutside, Elision, Proto, TaggedTemplate, BindingPattern, Begins, Stops, at_any_name, at_property, at_bound_name, at_item, after_tight, in_no_function, is_template, is_bigint}
 use Rattle.js_reading.specs.Found.{Find, first_of, is_free, is_key, opens_pattern, ones, one, at_object, twos, two, proto_key, three, outside}
 use Rattle.js_reading.proofs.sentences.Firsts.{remade}
 use Rattle.js_reading.proofs.sentences.KindsLemmas.{kind_is}
@@ -130,32 +130,8 @@ three_begins c t name arrow us w h = begins_so (three_stops c t name arrow us w 
 
 -- ---- `this`
 
-of_kind : (P : Token → Type 0) (t : Token) (k : Kind) → t.kind ≡ k → P (remade t k) → P t
-of_kind P t k is p = subst (λ x. P (remade t x)) (sym is) p
-
-abbrev pub IsHave : Option Config → Bool
-IsHave (Some (Have p l fs)) = true
-IsHave d = false
-
-no_name_there : (c : Config) (t : Token) → is_word (codes "this") t ≡ true → IsHave (turn c t) ≡ true → at_any_name c ≡ false
-no_name_there (Due f w (Text AnyName ∷ ss) ps l fs) t is h = absurd (true≢false (sym h ∙ of_kind (λ s. IsHave (turn (Due f w (Text AnyName ∷ ss) ps l fs) s) ≡ false) t (Word (codes "this")) (kind_is (Word (codes "this")) t.kind is) refl))
-no_name_there (Due f w (By slot.Properties ∷ ss) ps l fs) t is h = absurd (true≢false (sym h ∙ of_kind (λ s. IsHave (turn (Due f w (By slot.Properties ∷ ss) ps l fs) s) ≡ false) t (Word (codes "this")) (kind_is (Word (codes "this")) t.kind is) refl))
-no_name_there c t is h = refl
-
-same_frames : {p q : Piece} {l m : Loc} {fs gs : List Frame} → Some (Have p l fs) ≡ Some (Have q m gs) → fs ≡ gs
-same_frames h = cc
-
-pub this_found : (ts : List Token) (c : Config) (t : Token) (us : List Token) (w : Unsupported × Loc) → run Start ts ≡ Some c → outside (turn c t) t ≡ Some w → BeginsThere c t us w
-this_found ts c t us w ran h = by_turn (turn c t) refl h
+pub this_found : (c : Config) (t : Token) (us : List Token) (w : Unsupported × Loc) → outside c t ≡ Some w → BeginsThere c t us w
+this_found c t us w h = holds_of (BeginsThere c t us) (outside c t ∷ []) w each (alone (outside c t) w h)
   where
-    each : (p : Piece) (l : Loc) (fs : List Frame) → turn c t ≡ Some (Have p l fs) → EachOf (BeginsThere c t us) (outside (Some (Have p l fs)) t ∷ [])
-    each p l fs go = where_so
-        (λ k. let a = and_parts (is_word (codes "this") t) (not (in_function fs)) k in
-        let s = this_begins ts t c (Have p l fs) ran a.0 (no_name_there c t a.0 (ap IsHave go)) go in
-        let e = same_frames (sym (of_kind (λ x. want x s.0 ≡ Some (Have (AnExpr primary (tree.This (Some x.loc))) x.loc s.0)) t (Word (codes "this")) (kind_is (Word (codes "this")) t.kind a.0) refl) ∙ sym s.1 ∙ go) in
-        (Unsupported.this_outside s.0 s.1 a.0 (ap in_function e ∙ off (in_function fs) a.1), refl))
-        none_left
-
-    by_turn : (o : Option Config) → turn c t ≡ o → outside o t ≡ Some w → BeginsThere c t us w
-    by_turn (Some (Have p l fs)) go q = holds_of (BeginsThere c t us) (outside (Some (Have p l fs)) t ∷ []) w (each p l fs go) (alone (outside (Some (Have p l fs)) t) w q)
-    by_turn o go q = absurd cc
+    each : EachOf (BeginsThere c t us) (outside c t ∷ [])
+    each = where_so (λ q. let a = and_parts (is_free c t (codes "this")) (in_no_function c) q in freed c t (codes "this") a.0 (λ is n. (Unsupported.this_outside is n a.1, refl))) none_left

@@ -50,7 +50,7 @@ found_begins {ts = ts} {turns = turns} {c = c} t us x s apart h = holds_of (Begu
         (where_found (λ y q. three_found t us y s q)
         (where_found (λ y q. begun_here ts c t us y (searched_run s) (one_begins c t us y q))
         (where_found (λ y q. group_begins ts c t us y (searched_run s) q)
-        (where_found (λ y q. begun_here ts c t us y (searched_run s) (this_found ts c t us y (searched_run s) q))
+        (where_found (λ y q. begun_here ts c t us y (searched_run s) (this_found c t us y q))
         (where_found (λ y q. called_begins c t us y s apart q)
         (where_found (λ y q. proto_found t us y s q)
         (where_found (λ y q. parameter_begins ts c t us y (searched_run s) q)

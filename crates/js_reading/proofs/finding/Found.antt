@@ -150,7 +150,7 @@ missed {turns = turns} {c = c} vs _ t s are ran (of_parameter {ts = us} r told) 
     told (subst (λ x. parameter x t ≡ None) q (off_at (finds turns c t) 7 h))
 missed {turns = turns} {c = c} vs _ t s are ran (of_this told) h =
     let q = same_place (sym (ap (λ x. run Start x) (are ∙ append-nil vs)) ∙ searched_run s) ran in
-    told (subst (λ x. outside (turn x t) t ≡ None) q (off_at (finds turns c t) 4 h))
+    told (subst (λ x. outside x t ≡ None) q (off_at (finds turns c t) 4 h))
 missed {turns = turns} {c = c} vs _ t s are ran (of_call {t = u} {opening = v} {ts = us} r is told) h =
     let q = same_place (sym (ap (λ x. run Start x) are) ∙ searched_run s) (after_run vs (u ∷ v ∷ us) ran ∙ r) in
     told turns (kept vs us u v s are is) (subst (λ x. called turns x t ≡ None) q (off_at (finds turns c t) 5 h))

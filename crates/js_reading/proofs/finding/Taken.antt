@@ -66,9 +66,8 @@ few : {a b c e : Find} (g o p q : Find) → a ≡ None → b ≡ None → c ≡ 
 few {a = a} {b = b} {c = c} {e = e} g o p q ha hb hc he =
     ap (λ x. first_of (x ∷ b ∷ c ∷ g ∷ o ∷ e ∷ p ∷ q ∷ [])) ha ∙ ap (λ x. first_of (x ∷ c ∷ g ∷ o ∷ e ∷ p ∷ q ∷ [])) hb ∙ ap (λ x. first_of (x ∷ g ∷ o ∷ e ∷ p ∷ q ∷ [])) hc ∙ ap (λ x. first_of (g ∷ o ∷ x ∷ p ∷ q ∷ [])) he
 
-pub read_found : {ts : List Token} {turns : Turns} {c d : Config} (t : Token) → Searched ts turns c → turn c t ≡ Some d → found turns c t ≡ first_of (group c t ∷ outside (Some d) t ∷ proto_back turns t ∷ parameter c t ∷ [])
-read_found {turns = turns} {c = c} {d = d} t s h =
-    few (group c t) (outside (turn c t) t) (proto_back turns t) (parameter c t) (no_two_back t s h) (no_three_back t s h) (no_one t s h) (no_called t s h) ∙ ap (λ o. first_of (group c t ∷ outside o t ∷ proto_back turns t ∷ parameter c t ∷ [])) h
+pub read_found : {ts : List Token} {turns : Turns} {c d : Config} (t : Token) → Searched ts turns c → turn c t ≡ Some d → found turns c t ≡ first_of (group c t ∷ outside c t ∷ proto_back turns t ∷ parameter c t ∷ [])
+read_found {turns = turns} {c = c} t s h = few (group c t) (outside c t) (proto_back turns t) (parameter c t) (no_two_back t s h) (no_three_back t s h) (no_one t s h) (no_called t s h)
 
-pub read_finds : {ts : List Token} {turns : Turns} {c d : Config} (t : Token) → Searched ts turns c → turn c t ≡ Some d → found turns c t ≡ first_of (shown c d t ∷ outside (Some d) t ∷ proto_back turns t ∷ parameter c t ∷ [])
-read_finds {turns = turns} {c = c} {d = d} t s h = read_found t s h ∙ ap (λ x. first_of (x ∷ outside (Some d) t ∷ proto_back turns t ∷ parameter c t ∷ [])) (group_shown c d t h)
+pub read_finds : {ts : List Token} {turns : Turns} {c d : Config} (t : Token) → Searched ts turns c → turn c t ≡ Some d → found turns c t ≡ first_of (shown c d t ∷ outside c t ∷ proto_back turns t ∷ parameter c t ∷ [])
+read_finds {turns = turns} {c = c} {d = d} t s h = read_found t s h ∙ ap (λ x. first_of (x ∷ outside c t ∷ proto_back turns t ∷ parameter c t ∷ [])) (group_shown c d t h)

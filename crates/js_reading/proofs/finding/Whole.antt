@@ -16,7 +16,7 @@ use Rattle.js_reading.specs.Productions.{primary, call, is_mark, is_word}
 use Rattle.js_reading.specs.Sentences.{grip, fits, continues, Spells, SpellsItems}
 use Rattle.js_reading.specs.Turns.{place, Frame, InForm, Config, Due, Have, want, wanted, banned, have, turn, then_run, run}
 use Rattle.js_reading.specs.Unsupported
-use Rattle.js_reading.specs.Unsupported.{Unsupported, Stops, Begins, at_any_name, at_property, takes_call, takes_parameter, in_function, is_parenthesized_target, is_literal_pattern}
+use Rattle.js_reading.specs.Unsupported.{Unsupported, Stops, Begins, at_any_name, at_property, takes_call, takes_parameter, is_parenthesized_target, is_literal_pattern}
 use Rattle.js_reading.specs.Found.{Find, first_of, ones, one, twos, two, proto_key, three, left_sides, group, on_its_line, before_body, parameter, outside, opens_call, starts, asyncs, called, Turns}
 use Rattle.js_reading.proofs.sentences.Firsts.{remade}
 use Rattle.js_reading.proofs.finding.Groups.{is_group, target_group, literal_group, stands}
@@ -54,7 +54,7 @@ pub data Whole : Config → List Token → Token → Type 0 where
   of_three : {c : Config} {t name arrow : Token} → (three c t name arrow ≡ None → ⊥) → Whole c (t ∷ name ∷ []) arrow
   of_group : {c d : Config} {ts : List Token} {t : Token} → run c ts ≡ Some d → (group d t ≡ None → ⊥) → Whole c ts t
   of_parameter : {c d : Config} {ts : List Token} {t : Token} → run c ts ≡ Some d → (parameter d t ≡ None → ⊥) → Whole c ts t
-  of_this : {c : Config} {t : Token} → (outside (turn c t) t ≡ None → ⊥) → Whole c [] t
+  of_this : {c : Config} {t : Token} → (outside c t ≡ None → ⊥) → Whole c [] t
   of_call : {c d : Config} {t opening : Token} {ts : List Token} {arrow : Token} → run c (t ∷ opening ∷ ts) ≡ Some d → opens_call t opening ≡ true → ((turns : Turns) → starts t.loc (asyncs turns) ≡ true → called turns d arrow ≡ None → ⊥) → Whole c (t ∷ opening ∷ ts) arrow
 
 pub record Parts (c : Config) (us : List Token) : Type 0 where
@@ -206,7 +206,4 @@ parts (Unsupported.target_in_head {i = i} {e = e} {t = t} f fs word ts begins fi
 parts (Unsupported.literal {i = i} {e = e} {t = t} f fs sign ts begins fit de is assigned go) = group_parts f fs sign ts begins fit de (literal_group e is) (λ h. fired _ (both_true is (both_true fit (both_true assigned go))) (off_at (left_sides i e t.loc f sign) 3 h))
 parts (Unsupported.literal_in_head {i = i} {e = e} {t = t} f fs word ts begins fit de is at each_) = group_parts f fs word ts begins fit de (literal_group e is) (λ h. fired _ (both_true is (both_true fit (both_true at each_))) (off_at (left_sides i e t.loc f word) 4 h))
 parts (Unsupported.parameter f fs closing_ arrow ts begins takes dxs is is_closing is_arrow line) = parameter_parts f fs closing_ arrow ts begins takes dxs is is_closing (both_true is_arrow (ap not line))
-parts {c = c} (Unsupported.this_outside {t = t} {ts = ts} fs begins is n) = record { before = []; last = t; after = ts; are = refl; whole = of_this (λ h. fired _ (both_true is (ap not n)) (sym (ap (λ o. outside o t) there) ∙ h)) }
-  where
-    there : turn c t ≡ Some (Have (AnExpr primary (tree.This (Some t.loc))) t.loc fs)
-    there = begins ∙ of_kind (λ s. want s fs ≡ Some (Have (AnExpr primary (tree.This (Some s.loc))) s.loc fs)) t (Word (codes "this")) (kind_is (Word (codes "this")) t.kind is) refl
+parts {c = c} (Unsupported.this_outside {t = t} {ts = ts} is unnamed out) = record { before = []; last = t; after = ts; are = refl; whole = of_this (λ h. fired _ (both_true (free c t (codes "this") is unnamed) out) h) }

@@ -34,7 +34,7 @@ or_two : (x y : Bool) → y ≡ true → (x || y) ≡ true
 or_two true y h = refl
 or_two false y h = h
 
-not_or : (x y : Bool) → (x || y) ≡ false → (x ≡ false) × (y ≡ false)
+pub not_or : (x y : Bool) → (x || y) ≡ false → (x ≡ false) × (y ≡ false)
 not_or false y h = (refl, h)
 not_or true y h = absurd (true≢false h)
 
@@ -282,7 +282,7 @@ turn_shown (Finished ss) d t x h = absurd x
 
 -- ---- where it is read
 
-this_wanted : (t : Token) (fs : List Frame) → want (remade t (Word (codes "this"))) fs ≡ Some (Have (AnExpr primary (tree.This (Some t.loc))) t.loc fs)
+pub this_wanted : (t : Token) (fs : List Frame) → want (remade t (Word (codes "this"))) fs ≡ Some (Have (AnExpr primary (tree.This (Some t.loc))) t.loc fs)
 this_wanted t fs = refl
 
 -- no run ends

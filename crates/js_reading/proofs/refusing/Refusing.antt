@@ -19,7 +19,7 @@ use Rattle.js_reading.specs.Makes.{is_proto, build, last_level}
 use Rattle.js_reading.specs.Sentences.{least, continues, Dead}
 use Rattle.js_reading.specs.Turns.{place, begun_level, declares, listing, Frame, InForm, InExpression, InItems, Config, Due, Have, Item, Start, begin_form, want_by, want, begin_by, begin, wanted, banned, have, is_over, turn, run, then_run}
 use Rattle.js_reading.specs.Unsupported
-use Rattle.js_reading.specs.Unsupported.{Unsupported, Stops, Begins, at_property, at_any_name, at_bound_name, at_item, after_tight, operand_over, is_operand, is_template, is_bigint}
+use Rattle.js_reading.specs.Unsupported.{Unsupported, Stops, Begins, at_property, at_any_name, at_bound_name, at_item, after_tight, in_no_function, operand_over, is_operand, is_template, is_bigint}
 use Rattle.js_reading.proofs.sentences.Firsts.{remade}
 use Rattle.js_reading.proofs.sentences.KindsLemmas.{kind_is}
 use Rattle.js_reading.proofs.sentences.Runs.{nowhere, by_bool, run_append}
@@ -34,6 +34,7 @@ use Rattle.js_reading.proofs.refusing.Endless.{lost_after}
 use Rattle.js_reading.proofs.refusing.Dooms.{Doomed, doomed_endless, Lost, lost_then}
 use Rattle.js_reading.proofs.refusing.Quiet.{IsName, Quiet, is_each_kind, name_quiet, async_name, function_quiet, name_is_quiet}
 use Rattle.js_reading.proofs.refusing.Arrows.{arguments_stop}
+use Rattle.js_reading.proofs.refusing.OuterFree.{this_free}
 use Rattle.js_reading.proofs.refusing.OuterKept.{ShownAt, outer_endless, this_lost}
 use Rattle.js_reading.proofs.refusing.Protos.{part, no_object}
 use Rattle.js_reading.proofs.refusing.Parameters.{parameter_lost}
@@ -454,6 +455,17 @@ this_begins ts t c d ran is unnamed h =
     o : (statement t ≡ None) × Opening t
     o = of_kind (λ s. (statement s ≡ None) × Opening s) t (Word (codes "this")) (word_is (codes "this") t is) (this_opening t)
 
+-- outside functions it goes on with no sentence, read or not
+this_dead : (vs : List Token) (t : Token) (us : List Token) (c : Config) → run Start vs ≡ Some c → is_word (codes "this") t ≡ true → at_any_name c ≡ false → in_no_function c ≡ true → Dead (vs ++ t ∷ us)
+this_dead vs t us c ran is unnamed out = by_turn (turn c t) refl
+  where
+    by_turn : (o : Option Config) → turn c t ≡ o → Dead (vs ++ t ∷ us)
+    by_turn None refused = dead (vs ++ t ∷ us) (run_append Start vs (t ∷ us) ∙ ap (λ o. then_run o (λ d. run d (t ∷ us))) ran ∙ first_stops c t us refused)
+    by_turn (Some d) read =
+        let a = this_begins vs t c d ran is unnamed read in
+        let k = word_is (codes "this") t is in
+        lost_after ShownAt outer_endless vs (t ∷ us) c ran (this_lost t us c a.0 a.1 k (this_free c t a.0 out k a.1))
+
 -- ---- all of them
 
 -- it stops at one of these tokens
@@ -498,4 +510,4 @@ begins_dead u vs us c h (Unsupported.target_in_head {i = i} {e = e} {l = l} {t =
 begins_dead u vs us c h (Unsupported.literal {i = i} {e = e} {l = l} {t = t} {te = te} f fs sign ts begins fit de is assigned go) = let a = literal_facts e is in lost_after Doomed doomed_endless vs us c h (assigned_lost c i e l t te f fs sign ts begins fit de a.0 a.1 (assign_assigns sign assigned) go)
 begins_dead u vs us c h (Unsupported.literal_in_head {i = i} {e = e} {l = l} {t = t} {te = te} f fs word ts begins fit de is at each_) = let a = literal_facts e is in lost_after Doomed doomed_endless vs us c h (head_lost c i e l t te f fs word ts begins fit de a.0 a.1 at each_)
 begins_dead u vs us c h (Unsupported.parameter {t = t} f fs closing_ arrow ts begins takes dxs is is_closing is_arrow line) = lost_after Doomed doomed_endless vs us c h (parameter_lost c t f fs closing_ arrow ts begins takes dxs is (mark_is P.CloseParenthesis closing_ is_closing) (both_true is_arrow (ap not line)))
-begins_dead u vs us c h (Unsupported.this_outside {t = t} {ts = us_} fs begins is n) = lost_after ShownAt outer_endless vs us c h (this_lost t us_ c fs begins (word_is (codes "this") t is) n)
+begins_dead u vs us c h (Unsupported.this_outside {t = t} {ts = us_} is unnamed out) = this_dead vs t us_ c h is unnamed out

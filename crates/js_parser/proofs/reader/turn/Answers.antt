@@ -24,14 +24,14 @@ refused-requires-clause-told c =
     let refused = left c.in-Ok-take.taken (machine c.args.reader.now) (machine c.take.new.reader) (plain_token c.in-Ok.token) c.args.limit c.in-Ok-take.ensures.taken c.if-not-taken.true in
     tells_refused c.args.text.now c.args.lexer.now c.ask.new.lexer (machine c.args.reader.now) c.args.kept.now c.args.recent.now (plain_token c.in-Ok.token) c.in-Ok.token.start c.found_beyond-found.result c.requires.stands c.requires.going c.in-Ok.ensures.start
     (subst (λ g. asked_for g c.args.lexer.now ≡ Some (plain_token c.in-Ok.token, c.ask.new.lexer)) c.goal.ensures c.in-Ok.ensures.token) refused
-    (ok_then c.found_beyond-found.result _ _ c.found_beyond-found.ensures (λ find h. h c.requires.stands.turns (machine c.args.reader.now) c.requires.stands.remembers c.see-seen.ensures refused))
+    (ok_then c.found_beyond-found.result _ _ c.found_beyond-found.ensures (λ find h. h c.requires.stands.turns (machine c.args.reader.now) c.requires.stands.remembers c.see-seen.ensures))
 
 pub left_out-requires-clause-told : goal.left_out-requires-clause-told
 left_out-requires-clause-told c =
     let read = took c.in-Ok-take.taken (machine c.args.reader.now) (machine c.take.new.reader) (plain_token c.in-Ok.token) c.args.limit c.in-Ok-take.ensures.taken c.if-not-taken.false in
     tells_read c.args.text.now c.args.lexer.now c.ask.new.lexer (machine c.args.reader.now) c.args.kept.now c.args.recent.now (plain_token c.in-Ok.token) c.in-Ok-Some.find c.requires.stands c.requires.going
     (subst (λ g. asked_for g c.args.lexer.now ≡ Some (plain_token c.in-Ok.token, c.ask.new.lexer)) c.goal.ensures c.in-Ok.ensures.token)
-    (sym (found_then c.found_read.result (Some c.in-Ok-Some.find) _ c.found_read.ensures (c.in-Ok-Some.is ∙ ap Ok c.in-Ok-Some.field-0-is) c.requires.stands.led.tokens c.requires.stands.turns (machine c.args.reader.now) (machine c.take.new.reader) c.requires.stands.remembers c.see-seen.ensures c.outside.ensures c.requires.stands.searched read.0))
+    (sym (found_then c.found_read.result (Some c.in-Ok-Some.find) _ c.found_read.ensures (c.in-Ok-Some.is ∙ ap Ok c.in-Ok-Some.field-0-is) c.requires.stands.led.tokens c.requires.stands.turns (machine c.args.reader.now) (machine c.take.new.reader) c.requires.stands.remembers c.see-seen.ensures c.requires.stands.searched read.0))
 
 pub returns-clause-stands : goal.returns-clause-stands
 returns-clause-stands c =
@@ -39,7 +39,7 @@ returns-clause-stands c =
     stands_on c.args.text.now c.args.lexer.now c.ask.new.lexer (machine c.args.reader.now) (machine c.take.new.reader) c.args.kept.now c.keep.new.kept c.args.recent.now c.push.new.self (plain_token c.in-Ok.token) c.requires.stands
     (subst (λ g. asked_for g c.args.lexer.now ≡ Some (plain_token c.in-Ok.token, c.ask.new.lexer)) c.goal.ensures c.in-Ok.ensures.token)
     read.0
-    (sym (found_then c.found_read.result None _ c.found_read.ensures (c.in-Ok-None.is ∙ ap Ok c.in-Ok-None.field-0-is) c.requires.stands.led.tokens c.requires.stands.turns (machine c.args.reader.now) (machine c.take.new.reader) c.requires.stands.remembers c.see-seen.ensures c.outside.ensures c.requires.stands.searched read.0))
+    (sym (found_then c.found_read.result None _ c.found_read.ensures (c.in-Ok-None.is ∙ ap Ok c.in-Ok-None.field-0-is) c.requires.stands.led.tokens c.requires.stands.turns (machine c.args.reader.now) (machine c.take.new.reader) c.requires.stands.remembers c.see-seen.ensures c.requires.stands.searched read.0))
     (holds c.push.result _ c.push.ensures (sym c.is_err-2.ensures.value ∙ c.if-is_err-2.false) c.requires.stands.turns (machine c.args.reader.now) c.requires.stands.remembers c.see-seen.ensures.0)
     (holds c.keep.result _ c.keep.ensures (sym c.is_err.ensures.value ∙ c.if-is_err.false))
     c.in-Ok.ensures.text
