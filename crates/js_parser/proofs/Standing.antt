@@ -151,8 +151,8 @@ both_none : (x y : Find) → None ≡ or_else x y → (x ≡ None) × (y ≡ Non
 both_none None y h = (refl, sym h)
 both_none (Some x) y h = absurd cc
 
-one_some : (x y : Find) (z : Unsupported × Loc) → Some z ≡ or_else x y → (x ≡ Some z) ⊎ (y ≡ Some z)
-one_some None y z h = inr (sym h)
+one_some : (x y : Find) (z : Unsupported × Loc) → Some z ≡ or_else x y → (x ≡ Some z) ⊎ ((x ≡ None) × (y ≡ Some z))
+one_some None y z h = inr (refl, sym h)
 one_some (Some x) y z h = inl (sym h)
 
 -- what is said of a text where a token is refused: by what is found with it or ahead of it
@@ -164,7 +164,7 @@ tells_refused text here after c kept recent t at (Ok None) s going there h refus
 tells_refused text here after c kept recent t at (Ok (Some x)) s going there h refused is =
     elim (one_some (found s.turns c t) (ahead s.turns c t (next_two after)) x is) [
       | inl here_is ↦ λ small. leaves_out text here after c s.turns t x s.led s.searched (no_tree_there c going) small h here_is
-      | inr ahead_is ↦ λ small. leaves_out_ahead text here after c s.turns t x s.led s.searched (no_tree_there c going) h refused ahead_is
+      | inr ahead_is ↦ λ small. leaves_out_ahead text here after c s.turns t x s.led s.searched (no_tree_there c going) h refused ahead_is.0 ahead_is.1
     ]
 tells_refused text here after c kept recent t at (Err want) s going there h refused is = tt
 

@@ -5,6 +5,7 @@ pub mod BegunParameters
 pub mod Finds
 pub mod Found
 pub mod Groups
+pub mod Keys
 pub mod LeftOut
 pub mod Shown
 pub mod Taken

@@ -15,7 +15,7 @@ use Rattle.js_reading.specs.Productions.{is_mark, is_word, is_class, is_proto_wo
 use Rattle.js_reading.specs.Makes.{build}
 use Rattle.js_reading.specs.Sentences.{fits, continues}
 use Rattle.js_reading.specs.Turns.{Config, Due, Start, Frame, wanted, turn, run}
-use Rattle.js_reading.specs.Unsupported.{Unsupported, ClassForm, Super, Import, Export, NewTarget, Spread, OptionalChain, LogicalAssignment, Async, Generator, Accessor, BigIntLiteral, ThisOutside, Elision, Proto, TaggedTemplate, ParenthesizedTarget, BindingPattern, Begins, at_property, at_any_name, at_bound_name, at_item, after_tight, in_no_function, is_template, is_bigint, assigns, is_each, is_head, is_update, is_parenthesized_target, is_literal_pattern}
+use Rattle.js_reading.specs.Unsupported.{Unsupported, ClassForm, Super, Import, Export, NewTarget, Spread, OptionalChain, LogicalAssignment, Async, Generator, Accessor, BigIntLiteral, ThisOutside, Elision, Proto, TaggedTemplate, ParenthesizedTarget, BindingPattern, BeginsAfter, at_property, at_any_name, at_bound_name, at_item, after_tight, in_no_function, is_template, is_bigint, assigns, is_each, is_head, is_update, is_parenthesized_target, is_literal_pattern}
 
 -- a form, and where its first token stands
 abbrev pub Find : Type 0
@@ -238,7 +238,7 @@ pub data Searched : List Token → Turns → Config → Type 0 where
 
 -- no token of these begins a form whose tokens are all among them
 abbrev pub Clean : List Token → Type 0
-Clean ts = (u : Unsupported) (before us : List Token) (c : Config) → ts ≡ before ++ us → run Start before ≡ Some c → Begins u c us → ⊥
+Clean ts = (u : Unsupported) (before us : List Token) (c : Config) → ts ≡ before ++ us → run Start before ≡ Some c → BeginsAfter u before c us → ⊥
 
 -- no two of these tokens start at one place, but ends of the text
 abbrev pub Apart : List Token → Type 0
@@ -252,5 +252,5 @@ pub record BegunAt (ts : List Token) (what : Unsupported × Loc) : Type 0 where
   pub place : Config
   pub split : ts ≡ before ++ first ∷ others
   pub ran : run Start before ≡ Some place
-  pub begins : Begins what.0 place (first ∷ others)
+  pub begins : BeginsAfter what.0 before place (first ∷ others)
   pub there : first.loc.start ≡ what.1.start

@@ -84,7 +84,7 @@ abbrev pub FindsOnlyBegun : Type 0
 FindsOnlyBegun = (ts : List Token) (turns : Turns) (c : Config) (t : Token) (us : List Token) (x : Unsupported × Loc) → Searched ts turns c → Apart ts → found turns c t ≡ Some x → BegunAt (ts ++ t ∷ us) x
 
 abbrev pub FindsOnlyBegunAhead : Type 0
-FindsOnlyBegunAhead = (ts : List Token) (turns : Turns) (c : Config) (r : Token) (us : List Token) (x : Unsupported × Loc) → Searched ts turns c → ahead turns c r us ≡ Some x → BegunAt (ts ++ r ∷ us) x
+FindsOnlyBegunAhead = (ts : List Token) (turns : Turns) (c : Config) (r : Token) (us : List Token) (x : Unsupported × Loc) → Searched ts turns c → found turns c r ≡ None → ahead turns c r us ≡ Some x → BegunAt (ts ++ r ∷ us) x
 
 -- what is found with the token that is asked for, or ahead of it where it is refused, is left out of the text
 abbrev pub LeavesOut : Type 0
@@ -93,7 +93,7 @@ LeavesOut = (text : List ℕ) (place after : Place) (c : Config) (turns : Turns)
 
 abbrev pub LeavesOutAhead : Type 0
 LeavesOutAhead = (text : List ℕ) (place after : Place) (c : Config) (turns : Turns) (t : Token) (x : Unsupported × Loc) (led : Leads text place c) → Searched led.tokens turns c → tree_of (Some c) ≡ None →
-    asked_for (goal_of_place c) place ≡ Some (t, after) → turn c t ≡ None → ahead turns c t (next_two after) ≡ Some x → LeftOutThere text x
+    asked_for (goal_of_place c) place ≡ Some (t, after) → turn c t ≡ None → found turns c t ≡ None → ahead turns c t (next_two after) ≡ Some x → LeftOutThere text x
 
 -- where nothing is, the text is one of supported forms up to there: where no token stands, and where the one that does is refused
 abbrev pub SupportsWhatEnds : Type 0

@@ -16,7 +16,7 @@ use Rattle.js_text.specs.Lex.{next_token, token_place, offset_of, characters_of}
 use Rattle.js_reading.specs.Sentences.{Sentence, Dead}
 use Rattle.js_reading.specs.Turns.{Config, run, Start, braced, goal_of_place}
 use Rattle.js_reading.specs.Open.{OpensMore}
-use Rattle.js_reading.specs.Unsupported.{Unsupported, Begins}
+use Rattle.js_reading.specs.Unsupported.{Unsupported, BeginsAfter}
 use Rattle.js_reading.specs.Found.{Clean}
 
 -- ---- the next token, after white space and comments
@@ -122,7 +122,7 @@ pub record LeftOut (text : List ℕ) (at : ℕ) (form : Unsupported) : Type 0 wh
   pub others : List Token
   pub end : Place
   pub lexed : Lexes reached.place others end
-  pub begins : Begins form place others
+  pub begins : BeginsAfter form reached.tokens place others
   pub none : (tree : File) → Reads text tree → ⊥
 
 -- its tree, if it has one, is higher than the limit, since the tokens before begin more levels

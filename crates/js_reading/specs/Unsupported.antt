@@ -1,5 +1,5 @@
 -- The forms of the standard that the language leaves out, and what begins each: a token at a place, and those after it.
-use Rattle.std.specs.Prelude.{◌≡◌, ℕ, nat_le, Bool, true, false, not, ◌||◌, List, [], ◌∷◌, ◌++◌, Option, Some, codes}
+use Rattle.std.specs.Prelude.{◌≡◌, ℕ, nat_le, Bool, true, false, not, ◌&&◌, ◌||◌, List, [], ◌∷◌, ◌++◌, Option, Some, codes}
 use Rattle.js_terms.specs.declared.place.Loc.{Loc}
 use Rattle.js_tree.specs.Plain.{Expr, Exprs, more_expr}
 use Rattle.js_tree.specs.Plain as tree
@@ -11,7 +11,7 @@ use Rattle.js_reading.specs.Slots as slot
 use Rattle.js_reading.specs.Productions.{call, is_mark, is_word, is_class, is_proto_word, join}
 use Rattle.js_reading.specs.Makes.{is_target}
 use Rattle.js_reading.specs.Sentences.{fits, grip, continues, Spells, SpellsItems}
-use Rattle.js_reading.specs.Turns.{want, wanted, turn, Config, Due, Have, Item, Frame, InForm, InStmts, InItems}
+use Rattle.js_reading.specs.Turns.{want, wanted, turn, run, Config, Due, Have, Item, Start, Frame, InForm, InStmts, InItems}
 -- the forms: those of the code
 pub use Rattle.js_reading.specs.declared.unsupported.Unsupported.{Unsupported}
 pub use Rattle.js_reading.specs.declared.unsupported.Unsupported.TheVariants.{ClassForm, Super, Import, Export, NewTarget, Spread, OptionalChain, LogicalAssignment, Async, Generator, Accessor, BigIntLiteral, ThisOutside, Elision, Proto, TaggedTemplate, ParenthesizedTarget, BindingPattern}
@@ -197,3 +197,28 @@ pub data Begins : Unsupported → Config → List Token → Type 0 where
       is_mark P.CloseParenthesis closing ≡ true → is_mark P.Arrow arrow ≡ true → arrow.line_terminator_before ≡ false → Begins BindingPattern c (t ∷ (tx ++ closing ∷ arrow ∷ ts))
   -- `this` in no function, wherever the word stands but as a key or a member's name
   this_outside : {c : Config} {t : Token} {ts : List Token} → is_word (codes "this") t ≡ true → at_any_name c ≡ false → in_no_function c ≡ true → Begins ThisOutside c (t ∷ ts)
+
+-- ---- a word that is a key begins none of them
+
+-- before such a key a word makes an accessor, or an `async` method, of the property that it starts
+abbrev pub modifies : Token → Token → Bool
+modifies m key = is_word (codes "get") m || is_word (codes "set") m || (is_word (codes "async") m && not key.line_terminator_before)
+
+-- a key is due after a modifier: these tokens end with one, which starts a property
+pub record KeyIsDue (before : List Token) (key : Token) : Type 0 where
+  pub start : List Token
+  pub modifier : Token
+  pub place : Config
+  pub are : before ≡ start ++ modifier ∷ []
+  pub ran : run Start start ≡ Some place
+  pub starts : at_property place ≡ true
+  pub makes : modifies modifier key ≡ true
+
+-- a word that stands first is such a key
+abbrev pub IsKey : List Token → List Token → Type 0
+IsKey before [] = ⊥
+IsKey before (t ∷ ts) = (is_class AnyName t ≡ true) × KeyIsDue before t
+
+-- after these tokens, which lead to the place, those begin the form
+abbrev pub BeginsAfter : Unsupported → List Token → Config → List Token → Type 0
+BeginsAfter u before c us = Begins u c us × (IsKey before us → ⊥)

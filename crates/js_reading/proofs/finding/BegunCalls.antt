@@ -21,6 +21,7 @@ use Rattle.js_reading.specs.Turns.{place, inner, Frame, InForm, Config, Due, Sta
 use Rattle.js_reading.specs.Unsupported
 use Rattle.js_reading.specs.Unsupported.{Unsupported, Async, Stops, Begins, takes_call}
 use Rattle.js_reading.specs.Found.{when, opens_call, asyncs, same_start, starts, named_callee, arrow_after, called, Turns, Searched, not_begun, searched, Apart, BegunAt}
+use Rattle.js_reading.proofs.finding.Keys.{no_key_read}
 use Rattle.js_reading.proofs.sentences.KindsLemmas.{is_same, kind_is}
 use Rattle.js_reading.proofs.sentences.Runs.{nowhere, run_append}
 use Rattle.js_reading.proofs.sentences.Shapes.{both_true}
@@ -204,8 +205,8 @@ off true h = absurd (true≢false (sym h))
 word_no_end : (t : Token) → is_word (codes "async") t ≡ true → is_kind T.End t.kind ≡ false
 word_no_end t h = ap (is_kind T.End) (kind_is (Word (codes "async")) t.kind h)
 
-from_argued : {ts : List Token} (m : Loc) (t : Token) (us : List Token) → Argued m ts → Apart ts → Kept m ts → is_mark P.Arrow t ≡ true → BegunAt (ts ++ t ∷ us) (Async, m)
-from_argued {ts = ts} m t us a apart k is_arrow = by_tokens a.spelled a.are a.goes
+from_argued : {ts : List Token} {c : Config} (m : Loc) (t : Token) (us : List Token) → run Start ts ≡ Some c → Argued m ts → Apart ts → Kept m ts → is_mark P.Arrow t ≡ true → BegunAt (ts ++ t ∷ us) (Async, m)
+from_argued {ts = ts} m t us ran a apart k is_arrow = by_tokens a.spelled a.are a.goes
   where
     by_tokens : {after : List Token} → Arguments m after → ts ≡ a.before ++ after → ((x : Token) (xs : List Token) → after ≡ x ∷ xs → turn a.stand x ≡ want x (a.top ∷ a.below)) → BegunAt (ts ++ t ∷ us) (Async, m)
     by_tokens (arguments {tx = tx} tok opening closing_ at no_end is dxs is_closing) are goes =
@@ -221,7 +222,7 @@ from_argued {ts = ts} m t us a apart k is_arrow = by_tokens a.spelled a.are a.go
           place = a.stand;
           split = ap (λ x. x ++ t ∷ us) are ∙ append_assoc a.before (tok ∷ opening ∷ (tx ++ closing_ ∷ [])) (t ∷ us) ∙ ap (λ x. a.before ++ tok ∷ opening ∷ x) (append_assoc tx (closing_ ∷ []) (t ∷ us));
           ran = a.ran;
-          begins = Unsupported.at_once (Unsupported.async_arguments a.top a.below opening closing_ t us (goes tok (opening ∷ (tx ++ closing_ ∷ [])) refl) a.takes b.0 d.0 (off opening.line_terminator_before d.1) dxs (is_same (T.Punctuator P.CloseParenthesis) closing_.kind is_closing) is_arrow);
+          begins = (Unsupported.at_once (Unsupported.async_arguments a.top a.below opening closing_ t us (goes tok (opening ∷ (tx ++ closing_ ∷ [])) refl) a.takes b.0 d.0 (off opening.line_terminator_before d.1) dxs (is_same (T.Punctuator P.CloseParenthesis) closing_.kind is_closing) is_arrow), no_key_read tok (opening ∷ (tx ++ closing_ ∷ [])) (opening ∷ (tx ++ closing_ ∷ t ∷ us)) (sym (ap (λ x. run Start x) are) ∙ ran));
           there = ap (λ (y : Loc). y.start) at;
         }
 
@@ -233,7 +234,7 @@ by_callee {ts = ts} {turns = turns} t us x (Some m) s apart argued h = by_test (
     the_same q = cc
 
     by_test : (b : Bool) → (is_mark P.Arrow t && starts m (asyncs turns)) ≡ b → when b Async m ≡ Some x → BegunAt (ts ++ t ∷ us) x
-    by_test true e q = let a = and_parts (is_mark P.Arrow t) (starts m (asyncs turns)) e in subst (BegunAt (ts ++ t ∷ us)) (the_same q) (from_argued m t us (argued m refl) apart (kept_from m s a.1) a.0)
+    by_test true e q = let a = and_parts (is_mark P.Arrow t) (starts m (asyncs turns)) e in subst (BegunAt (ts ++ t ∷ us)) (the_same q) (from_argued m t us (searched_run s) (argued m refl) apart (kept_from m s a.1) a.0)
     by_test false e q = absurd cc
 
 pub called_begins : {ts : List Token} {turns : Turns} (c : Config) (t : Token) (us : List Token) (x : Unsupported × Loc) → Searched ts turns c → Apart ts → called turns c t ≡ Some x → BegunAt (ts ++ t ∷ us) x

@@ -18,6 +18,7 @@ use Rattle.js_reading.specs.Turns.{Frame, Config, Due, Start, wanted, run}
 use Rattle.js_reading.specs.Unsupported
 use Rattle.js_reading.specs.Unsupported.{Unsupported, Begins, assigns, is_each, is_head, is_update, is_parenthesized_target, is_literal_pattern}
 use Rattle.js_reading.specs.Found.{left_sides, left_side, on_its_line, group, BegunAt}
+use Rattle.js_reading.proofs.finding.Keys.{no_key_read}
 use Rattle.js_reading.proofs.levels.Makings.{is_first, is_join}
 use Rattle.js_reading.proofs.sentences.Standing.{Any, AsExpr, AsStmt, Tail}
 use Rattle.js_reading.proofs.sentences.Places.{opened, Reads, due, Led, bracketed}
@@ -29,12 +30,12 @@ off false h = refl
 off true h = absurd (true≢false (sym h))
 
 -- a part that stands there, and was begun with its first token
-side_begins : (u vs us : List Token) (b t : Token) (i : ℕ) (e : Expr) (l w : Loc) (f : Frame) (fs : List Frame) (x : Unsupported × Loc) → Led AsExpr (f ∷ fs) u b → b.loc ≡ w → Spells (AnExpr i e) l (b ∷ vs) t → left_side (Some (AnExpr i e)) w (f ∷ fs) t ≡ Some x →
+side_begins : {d : Config} (u vs us : List Token) (b t : Token) (i : ℕ) (e : Expr) (l w : Loc) (f : Frame) (fs : List Frame) (x : Unsupported × Loc) → run Start (u ++ b ∷ vs) ≡ Some d → Led AsExpr (f ∷ fs) u b → b.loc ≡ w → Spells (AnExpr i e) l (b ∷ vs) t → left_side (Some (AnExpr i e)) w (f ∷ fs) t ≡ Some x →
     BegunAt ((u ++ b ∷ vs) ++ t ∷ us) x
-side_begins u vs us b t i e l w f fs x led at de h = holds_of (BegunAt ((u ++ b ∷ vs) ++ t ∷ us)) (left_sides i e w f t) x each h
+side_begins u vs us b t i e l w f fs x ran led at de h = holds_of (BegunAt ((u ++ b ∷ vs) ++ t ∷ us)) (left_sides i e w f t) x each h
   where
     begun : (k : Unsupported) → Begins k led.0 (b ∷ (vs ++ t ∷ us)) → BegunAt ((u ++ b ∷ vs) ++ t ∷ us) (k, w)
-    begun k d = record { before = u; first = b; others = vs ++ t ∷ us; place = led.0; split = append_assoc u (b ∷ vs) (t ∷ us); ran = led.1; begins = d; there = ap (λ (y : Loc). y.start) at }
+    begun k d = record { before = u; first = b; others = vs ++ t ∷ us; place = led.0; split = append_assoc u (b ∷ vs) (t ∷ us); ran = led.1; begins = (d, no_key_read b vs (vs ++ t ∷ us) ran); there = ap (λ (y : Loc). y.start) at }
 
     each : EachOf (BegunAt ((u ++ b ∷ vs) ++ t ∷ us)) (left_sides i e w f t)
     each =
@@ -62,18 +63,18 @@ bracketed_first slot.ObjectLiteral h = refl
 bracketed_first g h = absurd (true≢false (sym h))
 
 -- a production in brackets, which is whole
-closed_begins : {g : Form} {w l : Loc} {ss : List Slot} {ps : List Piece} {fs : List Frame} {ts : List Token} (t : Token) (us : List Token) (x : Unsupported × Loc) (qs : List Piece) → Reads (Due g w ss ps l fs) ts → bracketed g ≡ true → SpellsSlots ss qs l l [] t →
+closed_begins : {g : Form} {w l : Loc} {ss : List Slot} {ps : List Piece} {fs : List Frame} {ts : List Token} (t : Token) (us : List Token) (x : Unsupported × Loc) (qs : List Piece) → run Start ts ≡ Some (Due g w ss ps l fs) → Reads (Due g w ss ps l fs) ts → bracketed g ≡ true → SpellsSlots ss qs l l [] t →
     left_side (build g (through w l) (ps ++ qs)) w fs t ≡ Some x → BegunAt (ts ++ t ∷ us) x
-closed_begins {g = g} {w = w} {l = l} {ps = ps} {fs = []} {ts = ts} t us x qs r is dd h = none_there (build g (through w l) (ps ++ qs)) h
+closed_begins {g = g} {w = w} {l = l} {ps = ps} {fs = []} {ts = ts} t us x qs ran r is dd h = none_there (build g (through w l) (ps ++ qs)) h
   where
     none_there : (o : Option Piece) → left_side o w [] t ≡ Some x → BegunAt (ts ++ t ∷ us) x
     none_there (Some (AnExpr i e)) k = absurd cc
     none_there o k = absurd cc
-closed_begins {g = g} {w = w} {l = l} {ps = ps} {fs = f ∷ fs} t us x qs (due (opened {k = AsStmt} b fr st kd tail)) is dd h = absurd (true≢false (sym (bracketed_first g is) ∙ kd))
-closed_begins {g = g} {w = w} {l = l} {ss = ss} {ps = ps} {fs = f ∷ fs} t us x qs (due (opened {k = AsExpr} {u = u} {us = vs} b fr st kd tail)) is dd h = by_made tail (build g (through w l) (ps ++ qs)) refl h
+closed_begins {g = g} {w = w} {l = l} {ps = ps} {fs = f ∷ fs} t us x qs ran (due (opened {k = AsStmt} b fr st kd tail)) is dd h = absurd (true≢false (sym (bracketed_first g is) ∙ kd))
+closed_begins {g = g} {w = w} {l = l} {ss = ss} {ps = ps} {fs = f ∷ fs} t us x qs ran (due (opened {k = AsExpr} {u = u} {us = vs} b fr st kd tail)) is dd h = by_made tail (build g (through w l) (ps ++ qs)) refl h
   where
     by_made : Tail AsExpr (f ∷ fs) Any g w ss ps l (b ∷ vs) → (o : Option Piece) → build g (through w l) (ps ++ qs) ≡ o → left_side o w (f ∷ fs) t ≡ Some x → BegunAt ((u ++ b ∷ vs) ++ t ∷ us) x
-    by_made tail (Some (AnExpr i e)) made k = side_begins u vs us b t i e (through w l) w f fs x st.0 (st.1 is) (subst (λ y. Spells (AnExpr i e) (through w l) y t) (append-nil (b ∷ vs)) (tail.spells tt tt dd made)) k
+    by_made tail (Some (AnExpr i e)) made k = side_begins u vs us b t i e (through w l) w f fs x ran st.0 (st.1 is) (subst (λ y. Spells (AnExpr i e) (through w l) y t) (append-nil (b ∷ vs)) (tail.spells tt tt dd made)) k
     by_made tail o made k = absurd cc
 
 not_arrow : (t : Token) → on_its_line t ≡ false → branch slot.Arrow t ≡ Pass (Missing ∷ [])
@@ -84,9 +85,9 @@ group_begins ts (Due slot.Parentheses w (By slot.Arrow ∷ []) ps l fs) t us x r
   where
     by_line : (b : Bool) → on_its_line t ≡ b → (if b then None else left_side (build slot.Parentheses (through w l) (ps ++ Missing ∷ [])) w fs t) ≡ Some x → BegunAt (ts ++ t ∷ us) x
     by_line true is k = absurd cc
-    by_line false is k = closed_begins t us x (Missing ∷ []) (reads_so ts (Due slot.Parentheses w (By slot.Arrow ∷ []) ps l fs) ran) refl (Sentences.passed (not_arrow t is) Sentences.done) k
+    by_line false is k = closed_begins t us x (Missing ∷ []) ran (reads_so ts (Due slot.Parentheses w (By slot.Arrow ∷ []) ps l fs) ran) refl (Sentences.passed (not_arrow t is) Sentences.done) k
 group_begins ts (Due slot.ArrayLiteral w [] ps l fs) t us x ran h =
-    closed_begins t us x [] (reads_so ts (Due slot.ArrayLiteral w [] ps l fs) ran) refl Sentences.done (ap (λ y. left_side (build slot.ArrayLiteral (through w l) y) w fs t) (append-nil ps) ∙ h)
+    closed_begins t us x [] ran (reads_so ts (Due slot.ArrayLiteral w [] ps l fs) ran) refl Sentences.done (ap (λ y. left_side (build slot.ArrayLiteral (through w l) y) w fs t) (append-nil ps) ∙ h)
 group_begins ts (Due slot.ObjectLiteral w [] ps l fs) t us x ran h =
-    closed_begins t us x [] (reads_so ts (Due slot.ObjectLiteral w [] ps l fs) ran) refl Sentences.done (ap (λ y. left_side (build slot.ObjectLiteral (through w l) y) w fs t) (append-nil ps) ∙ h)
+    closed_begins t us x [] ran (reads_so ts (Due slot.ObjectLiteral w [] ps l fs) ran) refl Sentences.done (ap (λ y. left_side (build slot.ObjectLiteral (through w l) y) w fs t) (append-nil ps) ∙ h)
 group_begins ts c t us x ran h = absurd cc

@@ -20,6 +20,7 @@ use Rattle.js_reading.specs.Unsupported.{Unsupported, BindingPattern, is_literal
 use Rattle.js_reading.specs.Found.{when, on_its_line, literal_loc, literal_item, before_body, parameter, BegunAt}
 use Rattle.js_reading.proofs.sentences.Firsts.{remade}
 use Rattle.js_reading.proofs.finding.Groups.{first_missing, arrow_first, arrow_or_not}
+use Rattle.js_reading.proofs.finding.Keys.{no_key_read}
 use Rattle.js_reading.proofs.sentences.KindsLemmas.{is_same}
 use Rattle.js_reading.proofs.refusing.Parameters.{LiteralTokens, literal_tokens, literal_of, located_literal, no_end_there, past_item}
 use Rattle.js_reading.proofs.sentences.Places.{opened, Reads, due}
@@ -53,9 +54,9 @@ slots_enclosed b xs (Sentences.sign opening is (Sentences.items closing_ dxs is_
 abbrev pub frame_of : Loc → Exprs → Frame
 frame_of w acc = InItems slot.Parentheses w P.CloseParenthesis (By slot.Arrow ∷ []) [] acc
 
-literal_begins : {b : Bool} {e : Expr} {xs : Exprs} {ts : List Token} {closing_ : Token} {m : Loc} (w : Loc) (acc : Exprs) (fs : List Frame) (v : List Token) (c : Config) (arrow : Token) (us : List Token) → run Start v ≡ Some c → ((t : Token) → turn c t ≡ item (frame_of w acc ∷ fs) t) → on_its_line arrow ≡ true →
+literal_begins : {d : Config} {b : Bool} {e : Expr} {xs : Exprs} {ts : List Token} {closing_ : Token} {m : Loc} (w : Loc) (acc : Exprs) (fs : List Frame) (v : List Token) (c : Config) (arrow : Token) (us : List Token) → run Start v ≡ Some c → run Start (v ++ (ts ++ closing_ ∷ [])) ≡ Some d → ((t : Token) → turn c t ≡ item (frame_of w acc ∷ fs) t) → on_its_line arrow ≡ true →
     is_mark P.CloseParenthesis closing_ ≡ true → is_literal_pattern e ≡ true → SpellsItems b (more_expr e xs) ts closing_ → LiteralTokens m ts → BegunAt (v ++ (ts ++ closing_ ∷ arrow ∷ us)) (BindingPattern, m)
-literal_begins {closing_ = closing_} w acc fs v c arrow us ran goes on is_closing is dxs (literal_tokens t ts at) =
+literal_begins {closing_ = closing_} w acc fs v c arrow us ran whole goes on is_closing is dxs (literal_tokens t ts at) =
     let a = and_parts (is_mark P.Arrow arrow) (not arrow.line_terminator_before) on in
     record {
       before = v;
@@ -64,7 +65,10 @@ literal_begins {closing_ = closing_} w acc fs v c arrow us ran goes on is_closin
       place = c;
       split = refl;
       ran = ran;
-      begins = Unsupported.parameter (frame_of w acc) fs closing_ arrow us (goes t ∙ cond-false (is_mark P.CloseParenthesis t) _ _ (no_end_there dxs)) refl dxs is is_closing a.0 (off arrow.line_terminator_before a.1);
+      begins = (
+        Unsupported.parameter (frame_of w acc) fs closing_ arrow us (goes t ∙ cond-false (is_mark P.CloseParenthesis t) _ _ (no_end_there dxs)) refl dxs is is_closing a.0 (off arrow.line_terminator_before a.1),
+        no_key_read t (ts ++ closing_ ∷ []) (ts ++ closing_ ∷ arrow ∷ us) whole,
+      );
       there = at;
     }
   where
@@ -82,35 +86,34 @@ tokens_at {ts = ts} {at = at} {m = m} e h k d = subst (λ l. LiteralTokens l ts)
     same : Some at ≡ Some m → at ≡ m
     same q = cc
 
-item_begins : {b : Bool} {xs : Exprs} {ts : List Token} {closing_ : Token} (m w : Loc) (acc : Exprs) (fs : List Frame) (v : List Token) (c : Config) (arrow : Token) (us : List Token) → run Start v ≡ Some c → ((t : Token) → turn c t ≡ item (frame_of w acc ∷ fs) t) → on_its_line arrow ≡ true → is_mark P.CloseParenthesis closing_ ≡ true →
+item_begins : {d : Config} {b : Bool} {xs : Exprs} {ts : List Token} {closing_ : Token} (m w : Loc) (acc : Exprs) (fs : List Frame) (v : List Token) (c : Config) (arrow : Token) (us : List Token) → run Start v ≡ Some c → run Start (v ++ (ts ++ closing_ ∷ [])) ≡ Some d → ((t : Token) → turn c t ≡ item (frame_of w acc ∷ fs) t) → on_its_line arrow ≡ true → is_mark P.CloseParenthesis closing_ ≡ true →
     SpellsItems b xs ts closing_ → literal_item xs ≡ Some m → BegunAt (v ++ (ts ++ closing_ ∷ arrow ∷ us)) (BindingPattern, m)
-item_begins m w acc fs v c arrow us ran goes on is_closing Sentences.no_item h = absurd cc
-item_begins {closing_ = closing_} m w acc fs v c arrow us ran goes on is_closing (Sentences.last_item {e = e} {ts = ts} ge de go) h = by_first (literal_loc e) refl h
+item_begins m w acc fs v c arrow us ran whole goes on is_closing Sentences.no_item h = absurd cc
+item_begins {closing_ = closing_} m w acc fs v c arrow us ran whole goes on is_closing (Sentences.last_item {e = e} {ts = ts} ge de go) h = by_first (literal_loc e) refl h
   where
     by_first : (o : Option Loc) → literal_loc e ≡ o → option_or o None ≡ Some m → BegunAt (v ++ (ts ++ closing_ ∷ arrow ∷ us)) (BindingPattern, m)
     by_first None is q = absurd cc
     by_first (Some l) is q =
         let literal = located_literal e l is in
         let a = literal_of de literal in
-        literal_begins w acc fs v c arrow us ran goes on is_closing literal (Sentences.last_item ge de go) (tokens_at e a.there (is ∙ q) a.tokens)
-item_begins {b = b} {closing_ = closing_} m w acc fs v c arrow us ran goes on is_closing (Sentences.more_items {e = e} {xs = xs} {ts = te} {us = tx} comma ge de is_comma dxs) h =
-    by_first (literal_loc e) refl (λ q. subst (λ y. BegunAt y (BindingPattern, m)) along (item_begins m w (push_exprs acc e) fs (v ++ (te ++ comma ∷ [])) (Item (frame_of w (push_exprs acc e) ∷ fs)) arrow us past (λ t. refl) on is_closing dxs q)) h
+        literal_begins w acc fs v c arrow us ran whole goes on is_closing literal (Sentences.last_item ge de go) (tokens_at e a.there (is ∙ q) a.tokens)
+item_begins {b = b} {closing_ = closing_} m w acc fs v c arrow us ran whole goes on is_closing (Sentences.more_items {e = e} {xs = xs} {ts = te} {us = tx} comma ge de is_comma dxs) h =
+    by_first (literal_loc e) refl (λ q. subst (λ y. BegunAt y (BindingPattern, m)) (along (arrow ∷ us)) (item_begins m w (push_exprs acc e) fs (v ++ (te ++ comma ∷ [])) (Item (frame_of w (push_exprs acc e) ∷ fs)) arrow us past (ap (λ y. run Start y) (along []) ∙ whole) (λ t. refl) on is_closing dxs q)) h
   where
     past : run Start (v ++ (te ++ comma ∷ [])) ≡ Some (Item (frame_of w (push_exprs acc e) ∷ fs))
     past =
         run_append Start v (te ++ comma ∷ []) ∙ ap (λ o. then_run o (λ d. run d (te ++ comma ∷ []))) ran ∙ ap (λ y. run c y) (split te comma []) ∙ ap (λ o. then_run o (λ d. run d (others te comma []))) (goes (first te comma))
         ∙ past_item comma slot.Parentheses w P.CloseParenthesis (By slot.Arrow ∷ []) [] acc fs ge de is_comma refl
 
-    along : (v ++ (te ++ comma ∷ [])) ++ (tx ++ closing_ ∷ arrow ∷ us) ≡ v ++ ((te ++ comma ∷ tx) ++ closing_ ∷ arrow ∷ us)
-    along =
-        append_assoc v (te ++ comma ∷ []) (tx ++ closing_ ∷ arrow ∷ us) ∙ ap (λ y. v ++ y) (append_assoc te (comma ∷ []) (tx ++ closing_ ∷ arrow ∷ us) ∙ sym (append_assoc te (comma ∷ tx) (closing_ ∷ arrow ∷ us)))
+    along : (vs : List Token) → (v ++ (te ++ comma ∷ [])) ++ (tx ++ closing_ ∷ vs) ≡ v ++ ((te ++ comma ∷ tx) ++ closing_ ∷ vs)
+    along vs = append_assoc v (te ++ comma ∷ []) (tx ++ closing_ ∷ vs) ∙ ap (λ y. v ++ y) (append_assoc te (comma ∷ []) (tx ++ closing_ ∷ vs) ∙ sym (append_assoc te (comma ∷ tx) (closing_ ∷ vs)))
 
     by_first : (o : Option Loc) → literal_loc e ≡ o → (literal_item xs ≡ Some m → BegunAt (v ++ ((te ++ comma ∷ tx) ++ closing_ ∷ arrow ∷ us)) (BindingPattern, m)) → option_or o (literal_item xs) ≡ Some m → BegunAt (v ++ ((te ++ comma ∷ tx) ++ closing_ ∷ arrow ∷ us)) (BindingPattern, m)
     by_first None is further q = further q
     by_first (Some l) is further q =
         let literal = located_literal e l is in
         let a = literal_of de literal in
-        literal_begins w acc fs v c arrow us ran goes on is_closing literal (Sentences.more_items comma ge de is_comma dxs) (with_comma (comma ∷ tx) (tokens_at e a.there (is ∙ q) a.tokens))
+        literal_begins w acc fs v c arrow us ran whole goes on is_closing literal (Sentences.more_items comma ge de is_comma dxs) (with_comma (comma ∷ tx) (tokens_at e a.there (is ∙ q) a.tokens))
 
 -- ---- parentheses that are whole
 
@@ -136,7 +139,7 @@ enclosed_begins : {b : Bool} {xs : Exprs} {vs : List Token} (m : Loc) (u : List 
     Enclosed b xs vs → literal_item xs ≡ Some m → BegunAt ((u ++ vs) ++ arrow ∷ us) (BindingPattern, m)
 enclosed_begins m u c d fs arrow us ran goes whole on (enclosed {ts = tx} opening closing_ is dxs is_closing) h =
     subst (λ y. BegunAt y (BindingPattern, m)) along
-    (item_begins m opening.loc no_expr fs (u ++ opening ∷ []) (Due slot.Parentheses opening.loc (Items_ P.CloseParenthesis ∷ By slot.Arrow ∷ []) [] opening.loc fs) arrow us (opening_read c u (tx ++ closing_ ∷ []) opening fs d ran (goes opening (tx ++ closing_ ∷ []) refl) is whole) (λ t. refl) on (is_same (T.Punctuator P.CloseParenthesis) closing_.kind is_closing) dxs h)
+    (item_begins m opening.loc no_expr fs (u ++ opening ∷ []) (Due slot.Parentheses opening.loc (Items_ P.CloseParenthesis ∷ By slot.Arrow ∷ []) [] opening.loc fs) arrow us (opening_read c u (tx ++ closing_ ∷ []) opening fs d ran (goes opening (tx ++ closing_ ∷ []) refl) is whole) (ap (λ y. run Start y) (append_assoc u (opening ∷ []) (tx ++ closing_ ∷ [])) ∙ whole) (λ t. refl) on (is_same (T.Punctuator P.CloseParenthesis) closing_.kind is_closing) dxs h)
   where
     along : (u ++ opening ∷ []) ++ (tx ++ closing_ ∷ arrow ∷ us) ≡ (u ++ opening ∷ (tx ++ closing_ ∷ [])) ++ arrow ∷ us
     along =

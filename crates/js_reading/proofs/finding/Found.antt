@@ -60,13 +60,13 @@ compared (x ∷ xs) us (y ∷ ys) vs h = more (compared xs us ys vs (tail_same h
 
 -- ---- what the turns tell
 
-same_place : {c d : Config} {o : Option Config} → o ≡ Some c → o ≡ Some d → c ≡ d
+pub same_place : {c d : Config} {o : Option Config} → o ≡ Some c → o ≡ Some d → c ≡ d
 same_place h k = by_some (sym h ∙ k)
   where
     by_some : {c d : Config} → Some c ≡ Some d → c ≡ d
     by_some q = cc
 
-after_run : (ts : List Token) {c : Config} (us : List Token) → run Start ts ≡ Some c → run Start (ts ++ us) ≡ run c us
+pub after_run : (ts : List Token) {c : Config} (us : List Token) → run Start ts ≡ Some c → run Start (ts ++ us) ≡ run c us
 after_run ts us h = run_append Start ts us ∙ ap (λ o. then_run o (λ d. run d us)) h
 
 pub searched_run : {ts : List Token} {turns : Turns} {c : Config} → Searched ts turns c → run Start ts ≡ Some c
@@ -181,7 +181,7 @@ none_in not_begun = λ vs us ws t c are ran w. nothing_there vs us ws t are
 none_in (searched t s none h) = no_more t s (none_in s) none
 
 clean_of : (ts : List Token) → NoWhole ts → Clean ts
-clean_of ts none u vs us c are ran b = let p = parts b in none vs p.before p.after p.last c (are ∙ ap (λ x. vs ++ x) p.are) ran p.whole
+clean_of ts none u vs us c are ran b = let p = parts b.0 in none vs p.before p.after p.last c (are ∙ ap (λ x. vs ++ x) p.are) ran p.whole
 
 -- nothing was found: nothing that ends there is begun
 pub clean : {ts : List Token} {turns : Turns} {c : Config} → Searched ts turns c → Clean ts

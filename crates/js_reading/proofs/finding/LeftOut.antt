@@ -112,7 +112,7 @@ left_out text end ts x d b none =
 
 -- a tree's tokens don't go on with what begins a form
 no_sentence : (ts : List Token) (x : Unsupported × Loc) (tree : File) → BegunAt ts x → Sentence tree ts → ⊥
-no_sentence ts x tree b s = begins_dead x.0 b.before (b.first ∷ b.others) b.place b.ran b.begins tree [] (subst (Sentence tree) (b.split ∙ sym (append-nil (b.before ++ b.first ∷ b.others))) s)
+no_sentence ts x tree b s = begins_dead x.0 b.before (b.first ∷ b.others) b.place b.ran b.begins.0 tree [] (subst (Sentence tree) (b.split ∙ sym (append-nil (b.before ++ b.first ∷ b.others))) s)
 
 stops_at : (place after : Place) (c : Config) (t : Token) → asked_for (goal_of_place c) place ≡ Some (t, after) → turn c t ≡ None → Stops c place
 stops_at place after c t h refused u p q =
@@ -150,10 +150,10 @@ lexes_two p None h = (p, no_token)
 lexes_two p (Some x) h = let r = lexes_met x.1 (next_token goal.Div x.1) refl in (r.0, one_more (div_stands p x h) r.1)
 
 pub leaves_out_ahead : (text : List ℕ) (place after : Place) (c : Config) (turns : Turns) (t : Token) (x : Unsupported × Loc) (led : Leads text place c) → Searched led.tokens turns c → tree_of (Some c) ≡ None →
-    asked_for (goal_of_place c) place ≡ Some (t, after) → turn c t ≡ None → ahead turns c t (next_two after) ≡ Some x → LeftOutThere text x
-leaves_out_ahead text place after c turns t x led s going h refused q =
+    asked_for (goal_of_place c) place ≡ Some (t, after) → turn c t ≡ None → found turns c t ≡ None → ahead turns c t (next_two after) ≡ Some x → LeftOutThere text x
+leaves_out_ahead text place after c turns t x led s going h refused unfound q =
     let more = lexes_two after (next_token goal.Div after) refl in
-    left_out text more.0 (led.tokens ++ t ∷ next_two after) x (lexes_then led.lexed (one_more (asked_stands (goal_of_place c) place (t, after) h) more.1)) (ahead_begins t (next_two after) x s q)
+    left_out text more.0 (led.tokens ++ t ∷ next_two after) x (lexes_then led.lexed (one_more (asked_stands (goal_of_place c) place (t, after) h) more.1)) (ahead_begins t (next_two after) x s unfound q)
     (no_tree text place c led going (stops_at place after c t h refused))
 
 -- what is no token for Div ends no form

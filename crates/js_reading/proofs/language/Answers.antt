@@ -63,7 +63,7 @@ pub returns-clause-finds_begun : goal.returns-clause-finds_begun
 returns-clause-finds_begun c = λ ts turns d t us x s apart h. found_begins t us x s apart h
 
 pub returns-clause-finds_ahead : goal.returns-clause-finds_ahead
-returns-clause-finds_ahead c = λ ts turns d r us x s h. ahead_begins r us x s h
+returns-clause-finds_ahead c = λ ts turns d r us x s none h. ahead_begins r us x s none h
 
 pub returns-clause-leaves_out : goal.returns-clause-leaves_out
 returns-clause-leaves_out c = leaves_out
