@@ -22,3 +22,4 @@ pub mod HeadLaws
 pub mod NodeMeasures
 pub mod MadeAs
 pub mod Turns
+mod Slashes

@@ -20,3 +20,4 @@ pub mod TemplatePieces
 pub mod Growing
 pub mod DeclaratorPieces
 pub mod Fors
+pub mod Leaves

@@ -15,6 +15,7 @@ ghost use Rattle.js_stack.specs.declared.production.Frame.TheVariants as frame;
 
 use crate::Refusal;
 use crate::left::Left;
+use crate::outside::this_outside;
 use crate::parts::Parts;
 use crate::pass::pass;
 use crate::production::{Frame, Place, Production, Turn, discard_frame};
@@ -24,7 +25,6 @@ use items::Memory;
 use js_build::{Body, List, Operand, Piece, Statements, is_declaration};
 use js_grammar::{Slot, Wanted, closes, fits, is_mark};
 use js_lexer::{Token, TokenKind};
-use js_outside::this_outside;
 use js_reading::{Choice, Form};
 use js_text::Punctuator;
 use js_tree::{Expr, ExprNode, Loc, Stmt};

@@ -7,6 +7,7 @@ mod have;
 mod leave;
 mod left;
 mod objects;
+mod outside;
 mod parameters;
 mod parts;
 mod pass;

@@ -13,8 +13,8 @@ use crate::parts::Parts;
 use crate::production::{Frame, Place, Production, discard_frame};
 use crate::stack::Stack;
 use items::Memory;
+use js_build::{leaf, piece_of};
 use js_grammar::{Wanted, prefix, rest, statement};
-use js_leaf::{leaf, piece};
 use js_lexer::Token;
 use js_reading::{Class, Form};
 use js_tree::{Loc, VariableKind};
@@ -55,7 +55,7 @@ fn begin_form(alloc: Global, stack: &Stack, form: Form, token: Token<'_>) -> Res
 {
     let mut production = opened(alloc, form, token.loc)?;
     if is_template(form) {
-        match piece(alloc, Class::FirstText, token.kind, token.loc)? {
+        match piece_of(alloc, Class::FirstText, token.kind, token.loc)? {
             None => return Err(Refusal::Syntax),
             Some(first) => production.parts.push(first)?,
         }

@@ -9,9 +9,8 @@ use crate::Refusal;
 use crate::production::{Frame, Place, Production};
 use crate::stack::Stack;
 use crate::start::{begin, want};
-use js_build::{List, Piece};
+use js_build::{List, Piece, piece_of};
 use js_grammar::{Sign, Slot, is_mark, is_sign};
-use js_leaf::piece;
 use js_lexer::Token;
 use js_reading::Class;
 use js_text::Punctuator;
@@ -45,7 +44,7 @@ fn take_text(
     ensures { Gives result (frames stack.now) (turns.take production.form production.start (plain_slot (slot.Text class)) (plain_slots production.left) (plain_pieces production.parts) (frames stack.now) (plain_token token.entry)) }
 {
     let mut production = production;
-    match piece(alloc, class, token.kind, token.loc)? {
+    match piece_of(alloc, class, token.kind, token.loc)? {
         None => Err(Refusal::Syntax),
         Some(text) => {
             production.parts.push(text)?;

@@ -5,7 +5,7 @@ use Rattle.js_text.specs.Token.{Token}
 use Rattle.js_lexer.specs.Token.{plain_token}
 use Rattle.js_reading.specs.Slots.{AnExpr}
 use Rattle.js_reading.specs.Turns.{Frame, Have, begin_leaf}
-use Rattle.js_leaf.specs.View.{leveled, operand_if}
+use Rattle.js_build.specs.Leaves.{leveled, operand_if}
 use Rattle.js_stack.specs.View.{frames}
 use Rattle.js_stack.proofs.start.begin_leaf.Goals as goal
 

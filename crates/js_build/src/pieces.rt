@@ -5,19 +5,19 @@ ghost use Rattle.js_terms.specs.declared.place.Loc.{Loc};
 ghost use Rattle.js_reading.specs.Productions as productions;
 ghost use Rattle.js_reading.specs.declared.class.Class.TheVariants as class;
 ghost use Rattle.js_reading.specs.Slots as slot;
-ghost use Rattle.js_leaf.specs.View.{Leaves};
+ghost use Rattle.js_build.specs.Leaves.{Leaves};
 
-use crate::names::{bound_name, escaped_name};
 use crate::strings::{string, template_text};
+use crate::words::{bound_name, escaped_name};
+use crate::{Key, Piece};
 use items::{Memory, Text};
-use js_build::{Key, Piece};
 use js_lexer::TokenKind;
 use js_reading::Class;
 use js_tree::{Loc, Name, PropertyKey, Spelled};
 use std::alloc::Global;
 
 /// What a token of a class leaves in a production, where it is one of the class.
-pub fn piece(
+pub fn piece_of(
     alloc: Global,
     class: Class,
     kind: TokenKind<'_>,

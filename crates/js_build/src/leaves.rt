@@ -5,13 +5,13 @@ ghost use Rattle.js_reading.specs.Sentences as sentences;
 ghost use Rattle.js_reading.specs.Productions as productions;
 ghost use Rattle.js_build.specs.Measures.{measures};
 ghost use Rattle.js_build.specs.View.{expr_node};
-ghost use Rattle.js_leaf.specs.View.{IsLeaf, operand_if};
+ghost use Rattle.js_build.specs.Leaves.{IsLeaf, operand_if};
 
-use crate::names::bound_name;
+use crate::Operand;
 use crate::regular_expressions::regular_expression;
 use crate::strings::{string, template_text};
+use crate::words::bound_name;
 use items::{Boxed, Items, Memory, Text};
-use js_build::Operand;
 use js_lexer::TokenKind;
 use js_tree::{Expr, ExprNode, Loc};
 use std::alloc::Global;

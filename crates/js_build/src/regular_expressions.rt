@@ -1,11 +1,11 @@
 ghost use Rattle.std.specs.Prelude.{◌≡◌, option_map};
 ghost use Rattle.js_reading.specs.Sentences as sentences;
 ghost use Rattle.js_text.specs.Token as T;
-ghost use Rattle.js_leaf.specs.View.{IsLeaf};
+ghost use Rattle.js_build.specs.Leaves.{IsLeaf};
 
+use crate::Operand;
 use crate::leaves::primary;
 use items::{Memory, Text};
-use js_build::Operand;
 use js_tree::{ExprNode, Loc};
 use std::alloc::Global;
 

@@ -1,4 +1,4 @@
--- What the code's answers are to the definitions.
+-- What one token leaves, as the code answers it.
 use Rattle.std.specs.Prelude.{◌≡◌, ℕ, Option, None, Some, Result, IfOk}
 use Rattle.std.specs.declared.alloc.AllocError.{AllocError}
 use Rattle.js_tree.specs.Plain.{Expr}

@@ -16,7 +16,7 @@ struct Places {
 }
 
 /// Whether `this` stands in statements outside every function but arrows (ECMA-262, 13.2.1), or want of memory.
-pub fn this_outside(alloc: Global, statements: &[Stmt]) -> Result<bool, Memory>
+pub(crate) fn this_outside(alloc: Global, statements: &[Stmt]) -> Result<bool, Memory>
     ensures { IfOk result (λ outside. outside ≡ this_stmts (plain_stmts statements.now)) }
 {
     let mut places = Places {

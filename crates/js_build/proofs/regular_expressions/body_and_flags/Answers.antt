@@ -1,7 +1,7 @@
-use Rattle.std.proofs.Common.{◌≡◌, Some, None, sym, ◌∙◌, lit<}
+use Rattle.std.proofs.Common.{Some, None, sym, ◌∙◌, lit<}
 use Rattle.std.proofs.lemmas.Str.Pattern.{strip_prefix_char}
-use Rattle.js_leaf.proofs.Slashes.{after_first, no_first}
-use Rattle.js_leaf.proofs.regular_expressions.body_and_flags.Goals as goal
+use Rattle.js_build.proofs.Slashes.{after_first, no_first}
+use Rattle.js_build.proofs.regular_expressions.body_and_flags.Goals as goal
 
 pub returns-in-Some : goal.returns-in-Some
 returns-in-Some c =

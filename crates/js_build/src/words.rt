@@ -4,14 +4,14 @@ ghost use Rattle.js_lexer.specs.Token.{kind_of};
 ghost use Rattle.js_reading.specs.Kinds as kinds;
 ghost use Rattle.js_reading.specs.Productions as productions;
 
+use crate::objects::is_keyword;
 use items::{Memory, Text};
-use js_build::is_keyword;
 use js_lexer::{TokenKind, name_of};
 use js_tree::Name;
 use std::alloc::Global;
 
 /// The name that a token binds or refers to, where it is one (12.7.2, 13.1).
-pub fn bound_name(alloc: Global, kind: TokenKind<'_>) -> Result<Option<Name>, Memory>
+pub(crate) fn bound_name(alloc: Global, kind: TokenKind<'_>) -> Result<Option<Name>, Memory>
     ensures { IfOk result (λ name. name ≡ productions.bound_name (kind_of kind.entry)) }
 {
     match kind {

@@ -1,7 +1,7 @@
 use Rattle.std.proofs.Common.{◌≡◌, ◌+◌, ◌-◌, suc, Some, None, take, drop, sym, ap, ◌∙◌, arith, lit<}
 use Rattle.std.proofs.lemmas.Str.Pattern.{rfind_char}
-use Rattle.js_leaf.proofs.Slashes.{no_slash, last_slash}
-use Rattle.js_leaf.proofs.regular_expressions.around_last_slash.Goals as goal
+use Rattle.js_build.proofs.Slashes.{no_slash, last_slash}
+use Rattle.js_build.proofs.regular_expressions.around_last_slash.Goals as goal
 
 pub returns-in-Some : goal.returns-in-Some
 returns-in-Some c =
