@@ -4,3 +4,4 @@ pub mod LastTurn
 pub mod Searching
 pub mod Offsets
 pub mod Standing
+pub mod Advancing

@@ -19,11 +19,11 @@ use Rattle.js_reading.specs.Makes.{with_directives}
 use Rattle.js_reading.specs.Turns.{Config, Due, Have, Item, Start, Finished, turn, tree_of, goal_of_place, braced}
 use Rattle.js_reading.specs.Open.{floor}
 use Rattle.js_reading.specs.declared.unsupported.Unsupported.{Unsupported}
-use Rattle.js_reading.specs.Found.{Find, or_else, found, ahead, Searched, not_begun, searched}
-use Rattle.js_reading.specs.Reads.{after_gap_of, continued, unless_braced, asked_for, Lexes, no_token, comments_of_token, comments_of_tokens, start_of, Reads, Reaches, NoTree, Supported, LeftOut, TooHigh, Leads, next_two}
+use Rattle.js_reading.specs.Found.{Find, found, Searched, not_begun, searched}
+use Rattle.js_reading.specs.Reads.{after_gap_of, continued, unless_braced, asked_for, Lexes, no_token, comments_of_token, comments_of_tokens, start_of, Reads, Reaches, NoTree, Supported, LeftOut, TooHigh, Leads}
 use Rattle.js_reading.proofs.heights.Heights.{directives_same}
 use Rattle.js_reading.proofs.goals.Texts.{led_on, Stops, stuck, no_tree, higher, has_tree, its_tree}
-use Rattle.js_reading.proofs.finding.LeftOut.{leaves_out, leaves_out_ahead, supports_ended, supports_refused, one_place}
+use Rattle.js_reading.proofs.finding.LeftOut.{leaves_out, leaves_out_ahead, leaves_out_further, supports_ended, supports_refused, one_place}
 use Rattle.js_reading.proofs.heights.Ended.{ended_high}
 use Rattle.js_reading.proofs.goals.Finishing.{is_finished, end_finishes}
 use Rattle.js_reading.proofs.heights.Opening.{begins_more}
@@ -32,6 +32,7 @@ use Rattle.js_parser.specs.Refused.{Because, RefusesText}
 use Rattle.js_parser.specs.declared.refused.Refused.{Refused}
 use Rattle.js_parser.specs.declared.recent.Recent.{Recent}
 use Rattle.js_parser.specs.Recent.{Remembers}
+use Rattle.js_parser.specs.Further.{FoundBeyond}
 use Rattle.js_parser.specs.Turn.{Stands, IsLow, EndsHigh, Steps, Leaves, IsLeftOut, Tells}
 use Rattle.js_parser.specs.declared.refused.Refusal.{Refusal}
 use Rattle.js_parser.specs.declared.refused.Refusal.TheVariants as why
@@ -73,7 +74,7 @@ drop_less zero xs = omega arith
 drop_less (suc n) [] = omega arith
 drop_less (suc n) (x ∷ xs) = let e = drop_less n xs in omega arith
 
-asked_advances : (g : Goal) (here there : Place) (t : Token) → asked_for g here ≡ Some (t, there) → (t.kind ≡ End) ⊎ (length there.after < length here.after)
+pub asked_advances : (g : Goal) (here there : Place) (t : Token) → asked_for g here ≡ Some (t, there) → (t.kind ≡ End) ⊎ (length there.after < length here.after)
 asked_advances goal.Div here there t h = elim (next_token-advances goal.Div here there t h) [ inl end ↦ inl end.0 | inr less ↦ inr less ]
 asked_advances goal.RegExp here there t h = elim (next_token-advances goal.RegExp here there t h) [ inl end ↦ inl end.0 | inr less ↦ inr less ]
 asked_advances goal.Template here there t h = by_found (next_token goal.Div here) refl h
@@ -97,7 +98,7 @@ asked_advances goal.Template here there t h = by_found (next_token goal.Div here
         by_brace true r = by_part brace (next_token goal.Template (token_place goal.Div here)) refl r
         by_brace false r = elim (next_token-advances goal.Div here there t (e ∙ r)) [ inl end ↦ inl end.0 | inr less ↦ inr less ]
 
-finished_height : (d : Config) → is_finished d ≡ true → is_some (height_of d) ≡ true
+pub finished_height : (d : Config) → is_finished d ≡ true → is_some (height_of d) ≡ true
 finished_height (Finished ss) h = refl
 finished_height (Due f w ss ps l fs) h = absurd (true≢false (sym h))
 finished_height (Have p l fs) h = absurd (true≢false (sym h))
@@ -146,26 +147,14 @@ stops_token c here after u h none t there g =
     let same : u ≡ t = ap (λ (o : Option (Token × Place)). elim o [ None ↦ u | Some z ↦ z.0 ]) e in
     subst (λ x. turn c x ≡ None) same none
 
--- nothing is found there, or what is found is left out
-both_none : (x y : Find) → None ≡ or_else x y → (x ≡ None) × (y ≡ None)
-both_none None y h = (refl, sym h)
-both_none (Some x) y h = absurd cc
-
-one_some : (x y : Find) (z : Unsupported × Loc) → Some z ≡ or_else x y → (x ≡ Some z) ⊎ ((x ≡ None) × (y ≡ Some z))
-one_some None y z h = inr (refl, sym h)
-one_some (Some x) y z h = inl (sym h)
-
--- what is said of a text where a token is refused: by what is found with it or ahead of it
+-- what is said of a text where a token is refused: by what is found with it, ahead of it or further on
 pub tells_refused : {U : Type 0} (text : List ℕ) (here after : Place) (c : Config) (kept : List Comment) (recent : Recent) (t : Token) (at : ℕ) (told : Result Find U) → (s : Stands text here c kept recent) → is_some (height_of c) ≡ false → at ≡ offset_of (token_place goal.Div here) →
-    asked_for (goal_of_place c) here ≡ Some (t, after) → turn c t ≡ None → IfOk told (λ find. find ≡ or_else (found s.turns c t) (ahead s.turns c t (next_two after))) → Tells told text at
-tells_refused text here after c kept recent t at (Ok None) s going there h refused is =
-    let none = both_none (found s.turns c t) (ahead s.turns c t (next_two after)) is in
-    subst (λ n. NoTree text n × Supported text n) (sym there) (has_none text here c s.led going (stops_token c here after t h refused), supports_refused text here after c s.turns t s.led s.searched h refused none.0 none.1)
-tells_refused text here after c kept recent t at (Ok (Some x)) s going there h refused is =
-    elim (one_some (found s.turns c t) (ahead s.turns c t (next_two after)) x is) [
-      | inl here_is ↦ λ small. leaves_out text here after c s.turns t x s.led s.searched (no_tree_there c going) small h here_is
-      | inr ahead_is ↦ λ small. leaves_out_ahead text here after c s.turns t x s.led s.searched (no_tree_there c going) h refused ahead_is.0 ahead_is.1
-    ]
+    asked_for (goal_of_place c) here ≡ Some (t, after) → turn c t ≡ None → IfOk told (λ find. FoundBeyond find s.turns c t after) → Tells told text at
+tells_refused text here after c kept recent t at (Ok None) s going there h refused none =
+    subst (λ n. NoTree text n × Supported text n) (sym there) (has_none text here c s.led going (stops_token c here after t h refused), supports_refused text here after c s.turns t s.led s.searched h refused none.0 none.1 none.2)
+tells_refused text here after c kept recent t at (Ok (Some x)) s going there h refused (inl is) = λ small. leaves_out text here after c s.turns t x s.led s.searched (no_tree_there c going) small h is
+tells_refused text here after c kept recent t at (Ok (Some x)) s going there h refused (inr (none, inl is)) = λ small. leaves_out_ahead text here after c s.turns t x s.led s.searched (no_tree_there c going) h refused none is
+tells_refused text here after c kept recent t at (Ok (Some x)) s going there h refused (inr (none, inr far)) = λ small. leaves_out_further text here after far.1 c s.turns t far.0 x s.led s.searched (no_tree_there c going) small h far.2 refused none far.3
 tells_refused text here after c kept recent t at (Err want) s going there h refused is = tt
 
 -- and where it is read, what is found with it

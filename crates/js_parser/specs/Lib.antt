@@ -1,3 +1,4 @@
 pub mod Recent
 pub mod Refused
 pub mod Turn
+pub mod Further

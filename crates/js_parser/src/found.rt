@@ -102,6 +102,13 @@ fn opens_pattern(token: Token<'_>, bound: bool) -> bool
     (is(Punctuator::OpenBracket, token) || is(Punctuator::OpenBrace, token)) && bound
 }
 
+/// Whether a token is `=>`.
+pub(crate) fn is_arrow(token: Token<'_>) -> bool
+    ensures { result ≡ productions.is_mark P.Arrow (plain_token token.entry) }
+{
+    is(Punctuator::Arrow, token)
+}
+
 /// A form that one token tells, with the place before it.
 pub(crate) fn one(sight: Sight, token: Token<'_>) -> Find
     ensures { (c : Config) → Sees sight c → result ≡ spec.one c (plain_token token.entry) }
@@ -323,7 +330,7 @@ pub(crate) fn opens_call(token: Token<'_>, opening: Token<'_>) -> bool
 }
 
 /// Whether two locations start at one place.
-fn same_start(one: Loc, other: Loc) -> bool
+pub(crate) fn same_start(one: Loc, other: Loc) -> bool
     ensures { result ≡ spec.same_start one other }
 {
     one.start.line == other.start.line && one.start.column == other.start.column

@@ -4,6 +4,7 @@
 mod ask;
 mod comments;
 mod found;
+mod further;
 mod offset;
 mod reader;
 mod recent;

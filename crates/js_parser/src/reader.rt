@@ -31,7 +31,7 @@ use std::alloc::Global;
 
 /// Takes a token, and says whether it goes on there; unless those before it begin more levels than the limit, or it ends a file
 /// that is higher.
-fn take(reader: &mut Reader, token: Token<'_>, limit: u64) -> Result<bool, Refusal>
+pub(crate) fn take(reader: &mut Reader, token: Token<'_>, limit: u64) -> Result<bool, Refusal>
     ensures taken { IfOk result (λ taken. Steps taken (machine reader.old) (machine reader.new) (plain_token token.entry) limit) }
     ensures refused { IfErr result (λ why. Leaves why (machine reader.old) (plain_token token.entry) limit) }
 {
@@ -127,7 +127,7 @@ fn turn<'a>(
         Err(why) => return Err(Refused { at, why }),
     };
     if !taken {
-        let found = found_beyond(alloc, recent, seen, token, lexer);
+        let found = found_beyond(alloc, recent, seen, token, lexer, limit);
         return Err(refused(text, at, found));
     }
     match found_read(alloc, recent, seen, token) {

@@ -10,8 +10,10 @@ ghost use Rattle.js_reading.specs.Turns as turns;
 ghost use Rattle.js_stack.specs.Reader.{machine};
 ghost use Rattle.js_stack.specs.Sight.{Sees};
 ghost use Rattle.js_parser.specs.Recent.{Remembers, Saw};
+ghost use Rattle.js_parser.specs.Further.{FoundBeyond};
 
 use crate::found::{Find, one, proto_key, this_outside, three, two};
+use crate::further::further;
 use crate::recent::Recent;
 use items::Memory;
 use js_lexer::{Goal, Lexer, Token};
@@ -125,20 +127,24 @@ fn ahead(
     )
 }
 
-/// What is found with a token that is refused, or else ahead of it.
+/// What is found with a token that is refused, or else ahead of it or further on.
 pub(crate) fn found_beyond(
     alloc: Global,
     recent: &Recent<'_>,
     seen: Seen,
     token: Token<'_>,
-    lexer: &mut Lexer<'_>,
+    lexer: &Lexer<'_>,
+    limit: u64,
 ) -> Result<Find, Memory>
-    ensures { IfOk result (λ find. (before : spec.Turns) (c : Config) → Remembers recent.now before → Saw seen c (plain_token token.entry)
-        → find ≡ spec.or_else (spec.found before c (plain_token token.entry)) (spec.ahead before c (plain_token token.entry) (next_two lexer.old))) }
+    ensures { IfOk result (λ find. (before : spec.Turns) (c : Config) → Remembers recent.now before → Saw seen c (plain_token token.entry) → FoundBeyond find before c (plain_token token.entry) lexer.now) }
 {
     let found = found_refused(alloc, recent, seen, token)?;
-    match found {
-        Some(_) => Ok(found),
-        None => ahead(alloc, recent, seen.sight, token, lexer),
+    if found.is_some() {
+        return Ok(found);
+    }
+    let ahead = ahead(alloc, recent, seen.sight, token, &mut lexer.again())?;
+    match ahead {
+        Some(_) => Ok(ahead),
+        None => further(alloc, seen.sight, token, lexer, limit),
     }
 }

@@ -2,8 +2,10 @@ pub mod Begun
 pub mod BegunCalls
 pub mod BegunGroups
 pub mod BegunParameters
+pub mod Coming
 pub mod Finds
 pub mod Found
+pub mod Further
 pub mod Groups
 pub mod Keys
 pub mod LeftOut

@@ -206,6 +206,31 @@ called turns (Due slot.Call w [] ps l fs) t = arrow_after turns (named_callee ps
 called turns (Due slot.New w [] ps l fs) t = arrow_after turns (named_callee ps) t
 called turns c t = None
 
+-- ---- `async` that is refused: what follows is read as where a file begins with the word
+
+-- the arguments of the name that starts there are whole
+abbrev pub starts_at : Loc → Option Loc → Bool
+starts_at l None = false
+starts_at l (Some m) = same_start m l
+
+abbrev pub argues : Loc → Config → Bool
+argues l (Due slot.Call w [] ps m fs) = starts_at l (named_callee ps)
+argues l (Due slot.New w [] ps m fs) = starts_at l (named_callee ps)
+argues l c = false
+
+abbrev pub then_holds : Option Config → (Config → Bool) → Bool
+then_holds None p = false
+then_holds (Some c) p = p c
+
+-- `=>` comes after them
+abbrev pub arrow_comes : Loc → Config → List Token → Bool
+arrow_comes l c [] = false
+arrow_comes l c (t ∷ ts) = (is_mark P.Arrow t && argues l c) || then_holds (turn c t) (λ d. arrow_comes l d ts)
+
+abbrev pub further : Config → Token → List Token → Find
+further c t [] = None
+further c t (opening ∷ ts) = when (not (at_any_name c) && (opens_call t opening && then_holds (turn Start t) (λ d. arrow_comes t.loc d (opening ∷ ts)))) Async t.loc
+
 -- what began at an earlier token comes first: a word after `get`, `set` or `async` is a key, and begins no form of its own
 abbrev pub finds : Turns → Config → Token → List Find
 finds turns c t = two_back turns t ∷ three_back turns t ∷ one c t ∷ group c t ∷ outside c t ∷ called turns c t ∷ proto_back turns t ∷ parameter c t ∷ []

@@ -16,8 +16,8 @@ use Rattle.js_reading.specs.Open.{OpensMore, floor}
 use Rattle.js_reading.specs.Unsupported.{Unsupported, Stops, Begins, at_any_name}
 use Rattle.js_reading.specs.Placed.{ArePlaced}
 use Rattle.js_walk.specs.Constructs.{constructs_file}
-use Rattle.js_reading.specs.Found.{first_of, shown, outside, proto_back, parameter, Turns, found, ahead, Searched, Clean, Apart, BegunAt}
-use Rattle.js_reading.specs.Reads.{asked_for, Lexes, start_of, Reads, Supported, LeftOutThere, Leads, next_two}
+use Rattle.js_reading.specs.Found.{first_of, shown, outside, proto_back, parameter, Turns, found, ahead, further, Searched, Clean, Apart, BegunAt}
+use Rattle.js_reading.specs.Reads.{asked_for, Lexes, start_of, Reads, Supported, LeftOutThere, Leads, next_two, NoneFurther}
 
 -- a sentence leads to its tree
 abbrev pub ReadsEachSentence : Type 0
@@ -69,7 +69,7 @@ FindsWhatEnds = (ts : List Token) (turns : Turns) (c : Config) (t : Token) → S
 
 -- the same of the whole text where a token is refused, and nothing is found ahead of it
 abbrev pub FindsWhatIsRefused : Type 0
-FindsWhatIsRefused = (ts : List Token) (turns : Turns) (c : Config) (r : Token) (us : List Token) → Searched ts turns c → turn c r ≡ None → found turns c r ≡ None → ahead turns c r us ≡ None → Clean (ts ++ r ∷ us)
+FindsWhatIsRefused = (ts : List Token) (turns : Turns) (c : Config) (r : Token) (us : List Token) → Searched ts turns c → turn c r ≡ None → found turns c r ≡ None → ahead turns c r us ≡ None → further c r us ≡ None → Clean (ts ++ r ∷ us)
 
 -- no two tokens of a text of fewer than 2^30 characters start at one place, but its ends
 abbrev pub TokensStandApart : Type 0
@@ -86,6 +86,9 @@ FindsOnlyBegun = (ts : List Token) (turns : Turns) (c : Config) (t : Token) (us 
 abbrev pub FindsOnlyBegunAhead : Type 0
 FindsOnlyBegunAhead = (ts : List Token) (turns : Turns) (c : Config) (r : Token) (us : List Token) (x : Unsupported × Loc) → Searched ts turns c → found turns c r ≡ None → ahead turns c r us ≡ Some x → BegunAt (ts ++ r ∷ us) x
 
+abbrev pub FindsOnlyBegunFurther : Type 0
+FindsOnlyBegunFurther = (ts : List Token) (turns : Turns) (c : Config) (r : Token) (us : List Token) (x : Unsupported × Loc) → Searched ts turns c → Apart (ts ++ r ∷ us) → turn c r ≡ None → found turns c r ≡ None → further c r us ≡ Some x → BegunAt (ts ++ r ∷ us) x
+
 -- what is found with the token that is asked for, or ahead of it where it is refused, is left out of the text
 abbrev pub LeavesOut : Type 0
 LeavesOut = (text : List ℕ) (place after : Place) (c : Config) (turns : Turns) (t : Token) (x : Unsupported × Loc) (led : Leads text place c) → Searched led.tokens turns c → tree_of (Some c) ≡ None → length (chars text) < 2 ^ 30 →
@@ -95,13 +98,17 @@ abbrev pub LeavesOutAhead : Type 0
 LeavesOutAhead = (text : List ℕ) (place after : Place) (c : Config) (turns : Turns) (t : Token) (x : Unsupported × Loc) (led : Leads text place c) → Searched led.tokens turns c → tree_of (Some c) ≡ None →
     asked_for (goal_of_place c) place ≡ Some (t, after) → turn c t ≡ None → found turns c t ≡ None → ahead turns c t (next_two after) ≡ Some x → LeftOutThere text x
 
+abbrev pub LeavesOutFurther : Type 0
+LeavesOutFurther = (text : List ℕ) (place after end : Place) (c : Config) (turns : Turns) (t : Token) (us : List Token) (x : Unsupported × Loc) (led : Leads text place c) → Searched led.tokens turns c → tree_of (Some c) ≡ None → length (chars text) < 2 ^ 30 →
+    asked_for (goal_of_place c) place ≡ Some (t, after) → Lexes after us end → turn c t ≡ None → found turns c t ≡ None → further c t us ≡ Some x → LeftOutThere text x
+
 -- where nothing is, the text is one of supported forms up to there: where no token stands, and where the one that does is refused
 abbrev pub SupportsWhatEnds : Type 0
 SupportsWhatEnds = (text : List ℕ) (place : Place) (c : Config) (turns : Turns) (led : Leads text place c) → Searched led.tokens turns c → asked_for (goal_of_place c) place ≡ None → Supported text (offset_of (token_place Div place))
 
 abbrev pub SupportsWhatIsRefused : Type 0
 SupportsWhatIsRefused = (text : List ℕ) (place after : Place) (c : Config) (turns : Turns) (r : Token) (led : Leads text place c) → Searched led.tokens turns c →
-    asked_for (goal_of_place c) place ≡ Some (r, after) → turn c r ≡ None → found turns c r ≡ None → ahead turns c r (next_two after) ≡ None → Supported text (offset_of (token_place Div place))
+    asked_for (goal_of_place c) place ≡ Some (r, after) → turn c r ≡ None → found turns c r ≡ None → ahead turns c r (next_two after) ≡ None → NoneFurther c r after → Supported text (offset_of (token_place Div place))
 
 -- no two places of a text of fewer than 2^30 characters have one position
 abbrev pub PlacesStandApart : Type 0

@@ -17,7 +17,7 @@ use Rattle.js_reading.specs.Sentences.{Sentence, Dead}
 use Rattle.js_reading.specs.Turns.{Config, run, Start, braced, goal_of_place}
 use Rattle.js_reading.specs.Open.{OpensMore}
 use Rattle.js_reading.specs.Unsupported.{Unsupported, BeginsAfter}
-use Rattle.js_reading.specs.Found.{Clean}
+use Rattle.js_reading.specs.Found.{further, Clean}
 
 -- ---- the next token, after white space and comments
 
@@ -157,3 +157,7 @@ pub record Leads (text : List ℕ) (place : Place) (config : Config) : Type 0 wh
   pub tokens : List Token
   pub lexed : Lexes (start_of text) tokens place
   pub ran : run Start tokens ≡ Some config
+
+-- whatever tokens stand from there on, nothing is found further than two of them
+abbrev pub NoneFurther : Config → Token → Place → Type 0
+NoneFurther config token place = (tokens : List Token) (end : Place) → Lexes place tokens end → further config token tokens ≡ None

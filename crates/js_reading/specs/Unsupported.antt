@@ -1,5 +1,5 @@
 -- The forms of the standard that the language leaves out, and what begins each: a token at a place, and those after it.
-use Rattle.std.specs.Prelude.{◌≡◌, ℕ, nat_le, Bool, true, false, not, ◌&&◌, ◌||◌, List, [], ◌∷◌, ◌++◌, Option, Some, codes}
+use Rattle.std.specs.Prelude.{◌≡◌, ℕ, nat_le, Bool, true, false, not, ◌&&◌, ◌||◌, List, [], ◌∷◌, ◌++◌, Option, Some, None, codes}
 use Rattle.js_terms.specs.declared.place.Loc.{Loc}
 use Rattle.js_tree.specs.Plain.{Expr, Exprs, more_expr}
 use Rattle.js_tree.specs.Plain as tree
@@ -163,6 +163,9 @@ pub data Stops : Unsupported → Config → List Token → Type 0 where
       Stops Async c (t ∷ name ∷ arrow ∷ ts)
   -- where an expression begins
   async_arguments : {c : Config} {t : Token} {b : Bool} {xs : Exprs} {tx : List Token} (f : Frame) (fs : List Frame) (opening closing arrow : Token) (ts : List Token) → turn c t ≡ want t (f ∷ fs) → takes_call f ≡ true → is_word (codes "async") t ≡ true →
+      is_mark P.OpenParenthesis opening ≡ true → opening.line_terminator_before ≡ false → SpellsItems b xs tx closing → is_mark P.CloseParenthesis closing ≡ true → is_mark P.Arrow arrow ≡ true → Stops Async c (t ∷ opening ∷ (tx ++ closing ∷ arrow ∷ ts))
+  -- where the machine stops at the word, since no expression may begin there
+  async_refused : {c : Config} {t : Token} {b : Bool} {xs : Exprs} {tx : List Token} (opening closing arrow : Token) (ts : List Token) → turn c t ≡ None → is_word (codes "async") t ≡ true → at_any_name c ≡ false →
       is_mark P.OpenParenthesis opening ≡ true → opening.line_terminator_before ≡ false → SpellsItems b xs tx closing → is_mark P.CloseParenthesis closing ≡ true → is_mark P.Arrow arrow ≡ true → Stops Async c (t ∷ opening ∷ (tx ++ closing ∷ arrow ∷ ts))
   async_method : {c : Config} {t key : Token} {ts : List Token} → is_word (codes "async") t ≡ true → at_property c ≡ true → (is_class Key key || is_mark P.OpenBracket key) ≡ true → key.line_terminator_before ≡ false → Stops Async c (t ∷ key ∷ ts)
   generator : {c : Config} {t star : Token} {ts : List Token} → is_word (codes "function") t ≡ true → at_any_name c ≡ false → is_mark P.Star star ≡ true → Stops Generator c (t ∷ star ∷ ts)

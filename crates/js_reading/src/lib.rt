@@ -2,7 +2,7 @@
 //! Each law on the definitions is a clause of a small function's contract.
 #![tactic(auto)]
 
-ghost use Rattle.js_reading.specs.Laws.{ReadsEachSentence, ReadsNothingElse, HasOneTree, StopsAtDead, CountsTrees, BeginsLevels, AsksForEach, StopsAtLeftOut, StopsTheRun, FindsThis, TextHasOneTree, CountsLinesFromOne, TokensStandApart, FindsFew, FindsAll, FindsWhatEnds, FindsWhatIsRefused, FindsOnlyBegun, FindsOnlyBegunAhead, LeavesOut, LeavesOutAhead, SupportsWhatEnds, SupportsWhatIsRefused, PlacesStandApart};
+ghost use Rattle.js_reading.specs.Laws.{ReadsEachSentence, ReadsNothingElse, HasOneTree, StopsAtDead, CountsTrees, BeginsLevels, AsksForEach, StopsAtLeftOut, StopsTheRun, FindsThis, TextHasOneTree, CountsLinesFromOne, TokensStandApart, FindsFew, FindsAll, FindsWhatEnds, FindsWhatIsRefused, FindsOnlyBegun, FindsOnlyBegunAhead, FindsOnlyBegunFurther, LeavesOut, LeavesOutAhead, LeavesOutFurther, SupportsWhatEnds, SupportsWhatIsRefused, PlacesStandApart};
 
 mod choice;
 mod class;
@@ -38,8 +38,10 @@ pub fn language()
     ensures finds_refused { FindsWhatIsRefused }
     ensures finds_begun { FindsOnlyBegun }
     ensures finds_ahead { FindsOnlyBegunAhead }
+    ensures finds_further { FindsOnlyBegunFurther }
     ensures leaves_out { LeavesOut }
     ensures leaves_out_ahead { LeavesOutAhead }
+    ensures leaves_out_further { LeavesOutFurther }
     ensures supports_ended { SupportsWhatEnds }
     ensures supports_refused { SupportsWhatIsRefused }
     ensures places_apart { PlacesStandApart }

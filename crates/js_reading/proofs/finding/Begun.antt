@@ -1,21 +1,17 @@
 -- What is found begins a form: its first token stands where it is said.
-use Rattle.std.proofs.Common.{◌≡◌, ℕ, Bool, true, false, not, ◌&&◌, List, [], ◌∷◌, Option, Some, None, codes, if◌then◌else◌, refl, sym, ap, subst, ◌∙◌}
+use Rattle.std.proofs.Common.{◌≡◌, ℕ, Bool, true, false, not, ◌&&◌, List, [], ◌∷◌, Some, None, codes, if◌then◌else◌, refl, sym, subst}
 use Rattle.std.specs.Prelude.{◌||◌}
 use Rattle.std.proofs.lemmas.Bool.{true≢false, and_parts}
 use Rattle.js_terms.specs.declared.place.Loc.{Loc}
-use Rattle.js_tree.specs.Plain as tree
-use Rattle.js_text.specs.Token.{Token, Kind, Word}
+use Rattle.js_text.specs.Token.{Token}
 use Rattle.js_text.specs.declared.punctuator.Punctuator.TheVariants as P
 use Rattle.js_reading.specs.Slots.{AnyName, BoundName, Key, Slot, Text, By, Piece, AnExpr}
 use Rattle.js_reading.specs.Slots as slot
-use Rattle.js_reading.specs.Productions.{primary, is_mark, is_word, is_class, is_proto_word}
-use Rattle.js_reading.specs.Turns.{Frame, Config, Due, Have, Start, want, turn, run}
+use Rattle.js_reading.specs.Productions.{is_mark, is_word, is_class, is_proto_word}
+use Rattle.js_reading.specs.Turns.{Config, Due}
 use Rattle.js_reading.specs.Unsupported
 use Rattle.js_reading.specs.Unsupported.{Unsupported, ClassForm, Super, Import, Export, NewTarget, Spread, OptionalChain, LogicalAssignment, Async, Generator, Accessor, BigIntLiteral, ThisOutside, Elision, Proto, TaggedTemplate, BindingPattern, Begins, Stops, at_any_name, at_property, at_bound_name, at_item, after_tight, in_no_function, is_template, is_bigint}
 use Rattle.js_reading.specs.Found.{Find, first_of, is_free, is_key, opens_pattern, ones, one, at_object, twos, two, proto_key, three, outside}
-use Rattle.js_reading.proofs.sentences.Firsts.{remade}
-use Rattle.js_reading.proofs.sentences.KindsLemmas.{kind_is}
-use Rattle.js_reading.proofs.refusing.Refusing.{this_begins}
 
 -- ---- the first of these that holds
 
@@ -35,11 +31,11 @@ holds_of P _ w (where_so {b = false} {xs = xs} f each) h = holds_of P xs w each 
 holds_of P _ w (where_found {x = None} {xs = xs} f each) h = holds_of P xs w each h
 holds_of P _ w (where_found {x = Some v} f each) h = f w h
 
-alone : (x : Find) (w : Unsupported × Loc) → x ≡ Some w → first_of (x ∷ []) ≡ Some w
+pub alone : (x : Find) (w : Unsupported × Loc) → x ≡ Some w → first_of (x ∷ []) ≡ Some w
 alone None w h = h
 alone (Some v) w h = h
 
-off : (b : Bool) → not b ≡ true → b ≡ false
+pub off : (b : Bool) → not b ≡ true → b ≡ false
 off false h = refl
 off true h = absurd (true≢false (sym h))
 
@@ -52,10 +48,10 @@ BeginsThere c t us w = Begins w.0 c (t ∷ us) × (t.loc ≡ w.1)
 abbrev pub StopsThere : Config → Token → List Token → Unsupported × Loc → Type 0
 StopsThere c t us w = Stops w.0 c (t ∷ us) × (t.loc ≡ w.1)
 
-stop : {u : Unsupported} {c : Config} {t : Token} {us : List Token} → Stops u c (t ∷ us) → StopsThere c t us (u, t.loc)
+pub stop : {u : Unsupported} {c : Config} {t : Token} {us : List Token} → Stops u c (t ∷ us) → StopsThere c t us (u, t.loc)
 stop s = (s, refl)
 
-begins_so : {c : Config} {t : Token} {us : List Token} {w : Unsupported × Loc} → StopsThere c t us w → BeginsThere c t us w
+pub begins_so : {c : Config} {t : Token} {us : List Token} {w : Unsupported × Loc} → StopsThere c t us w → BeginsThere c t us w
 begins_so s = (Unsupported.at_once s.0, s.1)
 
 -- a word that is no key

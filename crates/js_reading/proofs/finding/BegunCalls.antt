@@ -67,11 +67,11 @@ kept_from l (searched t s none go) h = kept_step l t s (λ q. kept_from l s q) h
 
 -- ---- one token at a location
 
-record SameToken (t u : Token) (ts us : List Token) : Type 0 where
+pub record SameToken (t u : Token) (ts us : List Token) : Type 0 where
   pub is : t ≡ u
   pub after : ts ≡ us
 
-same_word : {ts : List Token} (vs ws us xs : List Token) (t u : Token) → Apart ts → ts ≡ vs ++ t ∷ us → ts ≡ ws ++ u ∷ xs → is_kind T.End t.kind ≡ false → is_kind T.End u.kind ≡ false → same_start t.loc u.loc ≡ true → same_start u.loc t.loc ≡ true → SameToken t u us xs
+pub same_word : {ts : List Token} (vs ws us xs : List Token) (t u : Token) → Apart ts → ts ≡ vs ++ t ∷ us → ts ≡ ws ++ u ∷ xs → is_kind T.End t.kind ≡ false → is_kind T.End u.kind ≡ false → same_start t.loc u.loc ≡ true → same_start u.loc t.loc ≡ true → SameToken t u us xs
 same_word {ts = ts} vs ws us xs t u apart a b et eu h k = by_length (compared vs (t ∷ us) ws (u ∷ xs) (sym a ∙ b))
   where
     by_within : (zs : List Token) → vs ≡ ws ++ zs → SameToken t u us xs
@@ -101,7 +101,7 @@ takes_one (InForm slot.New w (Expr_ Callee) (By slot.Arguments ∷ []) []) h = r
 takes_one f h = h
 
 -- arguments that stand there, of a name that was begun in such frames
-record Argued (m : Loc) (ts : List Token) : Type 0 where
+pub record Argued (m : Loc) (ts : List Token) : Type 0 where
   pub before : List Token
   pub after : List Token
   pub stand : Config
@@ -134,12 +134,12 @@ some_frames (in_items ts b o items opens firsts) = refl
 pub data NamedArguments (m : Loc) : List Piece → Type 0 where
   named_arguments : {i : ℕ} {v : List ℕ} {b : Bool} {xs : Exprs} → NamedArguments m (AnExpr i (tree.IdentifierReference (Some m) v) ∷ TheExprs b xs ∷ [])
 
-named_view : (m : Loc) (ps : List Piece) → named_callee ps ≡ Some m → NamedArguments m ps
+pub named_view : (m : Loc) (ps : List Piece) → named_callee ps ≡ Some m → NamedArguments m ps
 named_view m (AnExpr i (tree.IdentifierReference (Some n) v) ∷ TheExprs b xs ∷ []) h = subst (λ x. NamedArguments x (AnExpr i (tree.IdentifierReference (Some n) v) ∷ TheExprs b xs ∷ [])) (some_loc h) named_arguments
 named_view m (AnExpr i (tree.IdentifierReference None v) ∷ TheExprs b xs ∷ []) h = absurd cc
 named_view m ps h = absurd cc
 
-argued_call : {ts : List Token} {w l : Loc} {ps : List Piece} {fs : List Frame} (m : Loc) (t : Token) → Reads (Due slot.Call w [] ps l fs) ts → NamedArguments m ps → Argued m ts
+pub argued_call : {ts : List Token} {w l : Loc} {ps : List Piece} {fs : List Frame} (m : Loc) (t : Token) → Reads (Due slot.Call w [] ps l fs) ts → NamedArguments m ps → Argued m ts
 argued_call {fs = []} m t (due (opened b fr st kd tail)) h = absurd (true≢false (sym (some_frames fr)))
 argued_call {fs = f ∷ fs} m t (due (opened {k = AsStmt} b fr st kd tail)) h = absurd (true≢false kd)
 argued_call {w = w} {l = l} {fs = f ∷ fs} m t (due (opened {k = AsExpr} {u = u} {us = vs} a fr st kd tail)) (named_arguments {v = v} {xs = xs}) =
@@ -185,7 +185,7 @@ argued_after {fs = fs} m c u d (new_arguments {ts = vs} b pre given) ran goes wh
       spelled = given;
     }
 
-argued_new : {ts : List Token} {w l : Loc} {ps : List Piece} {fs : List Frame} (m : Loc) (t : Token) (d : Config) → Reads (Due slot.New w [] ps l fs) ts → run Start ts ≡ Some d → NamedArguments m ps → Argued m ts
+pub argued_new : {ts : List Token} {w l : Loc} {ps : List Piece} {fs : List Frame} (m : Loc) (t : Token) (d : Config) → Reads (Due slot.New w [] ps l fs) ts → run Start ts ≡ Some d → NamedArguments m ps → Argued m ts
 argued_new m t d (due (opened {k = AsStmt} b fr st kd tail)) ran h = absurd (true≢false kd)
 argued_new {w = w} {l = l} {fs = fs} m t d (due (opened {k = AsExpr} {u = u} {us = vs} a fr st kd tail)) ran (named_arguments {v = v} {xs = xs}) =
     argued_after {fs = fs} m st.0.0 u d (subst (NewArguments m) (append-nil (a ∷ vs)) (new_call m (tail.spells {qs = []} {m = l} {ts = []} {next = t} {p = AnExpr member (tree.New (Some (through w l)) (tree.IdentifierReference (Some m) v) xs)} tt tt Sentences.done refl) refl refl))
@@ -193,7 +193,7 @@ argued_new {w = w} {l = l} {fs = fs} m t d (due (opened {k = AsExpr} {u = u} {us
 
 -- ---- and `=>` after it
 
-mirrored : (l m : Loc) → same_start l m ≡ true → same_start m l ≡ true
+pub mirrored : (l m : Loc) → same_start l m ≡ true → same_start m l ≡ true
 mirrored l m h =
     let a = and_parts (l.start.line == m.start.line) (l.start.column == m.start.column) h in
     both_true (eq-eqb m.start.line l.start.line (sym (eqb-true l.start.line m.start.line a.0))) (eq-eqb m.start.column l.start.column (sym (eqb-true l.start.column m.start.column a.1)))
@@ -202,7 +202,7 @@ off : (b : Bool) → not b ≡ true → b ≡ false
 off false h = refl
 off true h = absurd (true≢false (sym h))
 
-word_no_end : (t : Token) → is_word (codes "async") t ≡ true → is_kind T.End t.kind ≡ false
+pub word_no_end : (t : Token) → is_word (codes "async") t ≡ true → is_kind T.End t.kind ≡ false
 word_no_end t h = ap (is_kind T.End) (kind_is (Word (codes "async")) t.kind h)
 
 from_argued : {ts : List Token} {c : Config} (m : Loc) (t : Token) (us : List Token) → run Start ts ≡ Some c → Argued m ts → Apart ts → Kept m ts → is_mark P.Arrow t ≡ true → BegunAt (ts ++ t ∷ us) (Async, m)

@@ -2,14 +2,15 @@
 use Rattle.std.proofs.Common.{◌≡◌, List, [], ◌∷◌, ◌++◌, Some, None, refl, sym, ap, ◌∙◌, append_assoc}
 use Rattle.js_terms.specs.declared.place.Loc.{Loc}
 use Rattle.js_text.specs.Token.{Token}
-use Rattle.js_reading.specs.Turns.{Config, Start, run}
+use Rattle.js_reading.specs.Turns.{Config, Start, turn, run}
 use Rattle.js_reading.specs.Unsupported.{Unsupported, IsKey}
-use Rattle.js_reading.specs.Found.{Find, or_else, first_of, one, group, outside, called, parameter, Turns, two_back, proto_back, three_back, finds, found, three_ahead, three_over, aheads, ahead, Searched, not_begun, searched, Apart, BegunAt}
-use Rattle.js_reading.proofs.finding.Begun.{EachOf, none_left, where_found, holds_of, BeginsThere, one_begins, two_begins, three_begins, proto_begun, this_found}
+use Rattle.js_reading.specs.Found.{Find, or_else, first_of, one, group, outside, called, parameter, Turns, two_back, proto_back, three_back, finds, found, three_ahead, three_over, aheads, ahead, further, Searched, not_begun, searched, Apart, BegunAt}
+use Rattle.js_reading.proofs.finding.Begun.{EachOf, none_left, where_found, holds_of, BeginsThere, begins_so, one_begins, two_begins, three_begins, proto_begun, this_found}
 use Rattle.js_reading.proofs.finding.BegunGroups.{group_begins}
 use Rattle.js_reading.proofs.finding.BegunCalls.{called_begins}
 use Rattle.js_reading.proofs.finding.BegunParameters.{parameter_begins}
 use Rattle.js_reading.proofs.finding.Found.{searched_run}
+use Rattle.js_reading.proofs.finding.Further.{further_stops}
 use Rattle.js_reading.proofs.finding.Keys.{no_key_read, no_key_unfound}
 use Rattle.js_reading.proofs.finding.Whole.{off_at}
 
@@ -95,3 +96,6 @@ ahead_begins {ts = ts} {turns = turns} {c = c} r (n ∷ us) x s none h = holds_o
         (where_found (λ y q. over_three r n us y s q)
         (where_found (λ y q. begun_here ts c r (n ∷ us) y (searched_run s) free (proto_begun c r n us y q))
         none_left)))
+
+pub further_begins : {ts : List Token} {turns : Turns} {c : Config} (r : Token) (us : List Token) (x : Unsupported × Loc) → Searched ts turns c → Apart (ts ++ r ∷ us) → turn c r ≡ None → found turns c r ≡ None → further c r us ≡ Some x → BegunAt (ts ++ r ∷ us) x
+further_begins {ts = ts} {turns = turns} {c = c} r us x s apart refused none h = begun_here ts c r us x (searched_run s) (no_key_unfound r us s (off_at (finds turns c r) 0 none)) (begins_so (further_stops ts c r us x apart refused h))

@@ -6,10 +6,10 @@ use Rattle.std.proofs.lemmas.Bool.{true≢false, eq-eqb}
 use Rattle.js_terms.specs.declared.place.Loc.{Loc}
 use Rattle.js_text.specs.Token.{Token}
 use Rattle.js_reading.specs.Turns.{Config, Start, turn, then_run, run}
-use Rattle.js_reading.specs.Found.{one, two, proto_key, proto_back, three, group, parameter, outside, opens_call, starts, asyncs, called, Turns, two_back, three_back, finds, found, three_over, aheads, ahead, Searched, not_begun, searched, Clean}
+use Rattle.js_reading.specs.Found.{one, two, proto_key, proto_back, three, group, parameter, outside, opens_call, starts, asyncs, called, Turns, two_back, three_back, finds, found, three_over, aheads, ahead, further, Searched, not_begun, searched, Clean}
 use Rattle.js_reading.proofs.sentences.Runs.{run_append, stopped, nowhere}
 use Rattle.js_reading.proofs.sentences.Shapes.{both_true}
-use Rattle.js_reading.proofs.finding.Whole.{off_at, Whole, of_one, of_two, of_proto, of_three, of_group, of_parameter, of_this, of_call, parts}
+use Rattle.js_reading.proofs.finding.Whole.{off_at, Whole, of_one, of_two, of_proto, of_three, of_group, of_parameter, of_this, of_call, of_further, parts}
 
 -- ---- lists, from their end
 
@@ -123,6 +123,10 @@ kept vs us t opening (searched {ts = ts} {turns = turns} {c = c} x s none go) h 
         let r = snoc_same ts (vs ++ t ∷ opening ∷ ws) x y (q ∙ sym (append_assoc vs (t ∷ opening ∷ ws) (y ∷ []))) in
         kept_more t.loc (c, x) turns (before ws r.0)
 
+-- no run goes past a token that is refused
+unread : {d : Config} (vs : List Token) (u : Token) (us : List Token) → run Start vs ≡ Some d → turn d u ≡ None → run Start (vs ++ u ∷ us) ≡ None
+unread vs u us ran refused = after_run vs (u ∷ us) ran ∙ ap (λ o. then_run o (λ d. run d us)) refused
+
 -- ---- a form that ends at a token is found there
 
 missed : {ts : List Token} {turns : Turns} {c d : Config} (vs us : List Token) (t : Token) → Searched ts turns c → ts ≡ vs ++ us → run Start vs ≡ Some d → Whole d us t → found turns c t ≡ None → ⊥
@@ -154,6 +158,7 @@ missed {turns = turns} {c = c} vs _ t s are ran (of_this told) h =
 missed {turns = turns} {c = c} vs _ t s are ran (of_call {t = u} {opening = v} {ts = us} r is told) h =
     let q = same_place (sym (ap (λ x. run Start x) are) ∙ searched_run s) (after_run vs (u ∷ v ∷ us) ran ∙ r) in
     told turns (kept vs us u v s are is) (subst (λ x. called turns x t ≡ None) q (off_at (finds turns c t) 5 h))
+missed {c = c} vs _ t s are ran (of_further {t = u} {us = us} refused told) h = nowhere (sym (unread vs u us ran refused) ∙ (sym (ap (λ x. run Start x) are) ∙ searched_run s))
 
 -- no form up to its last token is among these
 abbrev pub NoWhole : List Token → Type 0
@@ -204,10 +209,10 @@ cut {ts = ts} r vs mid ws us s refused are is =
     ∙ after_run ts (r ∷ ws) (searched_run s) ∙ ap (λ o. then_run o (λ d. run d ws)) refused
 
 -- a form that goes beyond it
-passed : {ts : List Token} {turns : Turns} {c d : Config} (r : Token) (vs us mid ws after : List Token) (t : Token) → Searched ts turns c → turn c r ≡ None → ts ≡ vs ++ mid → us ≡ (mid ++ r ∷ []) ++ ws → run Start vs ≡ Some d → Whole d us t → ahead turns c r (ws ++ t ∷ after) ≡ None → ⊥
-passed r vs us mid ws after t s refused are is ran (of_one told) h = no_two mid ws r is
-passed r vs us mid ws after t s refused are is ran (of_this told) h = no_two mid ws r is
-passed {ts = ts} {turns = turns} {c = c} r vs _ mid ws after t s refused are is ran (of_two {t = u} told) h = by_length mid ws are is h
+passed : {ts : List Token} {turns : Turns} {c d : Config} (r : Token) (vs us mid ws after : List Token) (t : Token) → Searched ts turns c → turn c r ≡ None → ts ≡ vs ++ mid → us ≡ (mid ++ r ∷ []) ++ ws → run Start vs ≡ Some d → Whole d us t → ahead turns c r (ws ++ t ∷ after) ≡ None → further c r (ws ++ t ∷ after) ≡ None → ⊥
+passed r vs us mid ws after t s refused are is ran (of_one told) h k = no_two mid ws r is
+passed r vs us mid ws after t s refused are is ran (of_this told) h k = no_two mid ws r is
+passed {ts = ts} {turns = turns} {c = c} r vs _ mid ws after t s refused are is ran (of_two {t = u} told) h further_none = by_length mid ws are is h
   where
     by_length : (mid ws : List Token) → ts ≡ vs ++ mid → u ∷ [] ≡ (mid ++ r ∷ []) ++ ws → ahead turns c r (ws ++ t ∷ after) ≡ None → ⊥
     by_length [] [] a q k =
@@ -215,7 +220,7 @@ passed {ts = ts} {turns = turns} {c = c} r vs _ mid ws after t s refused are is 
         told (subst (λ x. two x u t ≡ None) e (subst (λ x. two c x t ≡ None) (sym (head_same q)) (off_at (aheads turns c r t after) 0 k)))
     by_length [] (w ∷ ws) a q k = no_cons (tail_same q)
     by_length (m ∷ mid) ws a q k = no_two mid ws r (tail_same q)
-passed {ts = ts} {turns = turns} {c = c} r vs _ mid ws after t s refused are is ran (of_proto {t = u} told) h = by_length mid ws are is h
+passed {ts = ts} {turns = turns} {c = c} r vs _ mid ws after t s refused are is ran (of_proto {t = u} told) h further_none = by_length mid ws are is h
   where
     by_length : (mid ws : List Token) → ts ≡ vs ++ mid → u ∷ [] ≡ (mid ++ r ∷ []) ++ ws → ahead turns c r (ws ++ t ∷ after) ≡ None → ⊥
     by_length [] [] a q k =
@@ -223,7 +228,7 @@ passed {ts = ts} {turns = turns} {c = c} r vs _ mid ws after t s refused are is 
         told (subst (λ x. proto_key x u t ≡ None) e (subst (λ x. proto_key c x t ≡ None) (sym (head_same q)) (off_at (aheads turns c r t after) 3 k)))
     by_length [] (w ∷ ws) a q k = no_cons (tail_same q)
     by_length (m ∷ mid) ws a q k = no_two mid ws r (tail_same q)
-passed {ts = ts} {turns = turns} {c = c} r vs _ mid ws after t s refused are is ran (of_three {t = u} {name = v} told) h = by_length mid ws are is h
+passed {ts = ts} {turns = turns} {c = c} r vs _ mid ws after t s refused are is ran (of_three {t = u} {name = v} told) h further_none = by_length mid ws are is h
   where
     by_length : (mid ws : List Token) → ts ≡ vs ++ mid → u ∷ v ∷ [] ≡ (mid ++ r ∷ []) ++ ws → ahead turns c r (ws ++ t ∷ after) ≡ None → ⊥
     by_length [] [] a q k = no_cons (sym (tail_same q))
@@ -238,13 +243,20 @@ passed {ts = ts} {turns = turns} {c = c} r vs _ mid ws after t s refused are is 
         told (subst (λ x. three x u v t ≡ None) e (subst (λ x. three l.place x v t ≡ None) (sym (head_same q)) (subst (λ x. three l.place m x t ≡ None) (sym (head_same (tail_same q))) (subst (λ x. three_over x r t ≡ None) l.are (off_at (aheads turns c r t after) 2 k)))))
     by_length (m ∷ []) (w ∷ ws) a q k = no_cons (tail_same (tail_same q))
     by_length (m ∷ n ∷ mid) ws a q k = no_two mid ws r (tail_same (tail_same q))
-passed {c = c} r vs _ mid ws after t s refused are is ran (of_group {ts = us} g told) h = nowhere (sym (cut r vs mid ws us s refused are is) ∙ (after_run vs us ran ∙ g))
-passed {c = c} r vs _ mid ws after t s refused are is ran (of_parameter {ts = us} g told) h = nowhere (sym (cut r vs mid ws us s refused are is) ∙ (after_run vs us ran ∙ g))
-passed {c = c} r vs _ mid ws after t s refused are is ran (of_call {t = u} {opening = v} {ts = us} g on told) h = nowhere (sym (cut r vs mid ws (u ∷ v ∷ us) s refused are is) ∙ (after_run vs (u ∷ v ∷ us) ran ∙ g))
+passed {c = c} r vs _ mid ws after t s refused are is ran (of_group {ts = us} g told) h k = nowhere (sym (cut r vs mid ws us s refused are is) ∙ (after_run vs us ran ∙ g))
+passed {c = c} r vs _ mid ws after t s refused are is ran (of_parameter {ts = us} g told) h k = nowhere (sym (cut r vs mid ws us s refused are is) ∙ (after_run vs us ran ∙ g))
+passed {c = c} r vs _ mid ws after t s refused are is ran (of_call {t = u} {opening = v} {ts = us} g on told) h k = nowhere (sym (cut r vs mid ws (u ∷ v ∷ us) s refused are is) ∙ (after_run vs (u ∷ v ∷ us) ran ∙ g))
+passed {ts = ts} {c = c} {d = d} r vs _ mid ws after t s refused are is ran (of_further {t = u} {us = us} stopped_ told) h k = by_length mid are is
+  where
+    by_length : (mid : List Token) → ts ≡ vs ++ mid → u ∷ us ≡ (mid ++ r ∷ []) ++ ws → ⊥
+    by_length [] a q =
+        let e = same_place (sym (ap (λ x. run Start x) (a ∙ append-nil vs)) ∙ searched_run s) ran in
+        told after (subst (λ x. further d x (us ++ t ∷ after) ≡ None) (sym (head_same q)) (subst (λ x. further d r (x ++ t ∷ after) ≡ None) (sym (tail_same q)) (subst (λ x. further x r (ws ++ t ∷ after) ≡ None) e k)))
+    by_length (m ∷ mid) a q = nowhere (sym (unread vs u mid ran stopped_) ∙ (ap (λ x. run Start (vs ++ x ∷ mid)) (head_same q) ∙ (sym (ap (λ x. run Start x) a) ∙ searched_run s)))
 
 -- it is reached only from what was read
-none_beyond : {ts : List Token} {turns : Turns} {c : Config} (r : Token) (us : List Token) → Searched ts turns c → turn c r ≡ None → NoWhole (ts ++ r ∷ []) → ahead turns c r us ≡ None → NoWhole (ts ++ r ∷ us)
-none_beyond {ts = ts} {turns = turns} {c = c} r us s refused none h vs is ws t d are ran w =
+none_beyond : {ts : List Token} {turns : Turns} {c : Config} (r : Token) (us : List Token) → Searched ts turns c → turn c r ≡ None → NoWhole (ts ++ r ∷ []) → ahead turns c r us ≡ None → further c r us ≡ None → NoWhole (ts ++ r ∷ us)
+none_beyond {ts = ts} {turns = turns} {c = c} r us s refused none h further_none vs is ws t d are ran w =
     by_end (compared (ts ++ r ∷ []) us (vs ++ (is ++ t ∷ [])) ws (append_assoc ts (r ∷ []) us ∙ are ∙ ap (λ x. vs ++ x) (sym (append_assoc is (t ∷ []) ws)) ∙ sym (append_assoc vs (is ++ t ∷ []) ws)))
   where
     by_start : (zs after : List Token) → us ≡ zs ++ t ∷ after → vs ++ is ≡ (ts ++ r ∷ []) ++ zs → Compared vs is (ts ++ r ∷ []) zs → ⊥
@@ -255,7 +267,7 @@ none_beyond {ts = ts} {turns = turns} {c = c} r us s refused none h vs is ws t d
         by_last nothing k m = nowhere (sym (ap (λ x. run Start x) (sym (k ∙ append-nil vs)) ∙ (after_run ts (r ∷ []) (searched_run s) ∙ ap (λ o. then_run o (λ d. run d [])) refused)) ∙ ran)
         by_last (one_last mid y) k m =
             let e2 = snoc_same ts (vs ++ mid) r y (k ∙ sym (append_assoc vs mid (y ∷ []))) in
-            passed r vs is mid zs after t s refused e2.0 (m ∙ ap (λ x. (mid ++ x ∷ []) ++ zs) (sym e2.1)) ran w (subst (λ x. ahead turns c r x ≡ None) e h)
+            passed r vs is mid zs after t s refused e2.0 (m ∙ ap (λ x. (mid ++ x ∷ []) ++ zs) (sym e2.1)) ran w (subst (λ x. ahead turns c r x ≡ None) e h) (subst (λ x. further c r x ≡ None) e further_none)
 
     by_end : Compared (ts ++ r ∷ []) us (vs ++ (is ++ t ∷ [])) ws → ⊥
     by_end (within zs k) = none vs is zs t d (k ∙ append_assoc vs (is ++ t ∷ []) zs ∙ ap (λ x. vs ++ x) (append_assoc is (t ∷ []) zs)) ran w
@@ -268,5 +280,5 @@ none_beyond {ts = ts} {turns = turns} {c = c} r us s refused none h vs is ws t d
             by_start ys ws (m ∙ append_assoc ys (y ∷ []) ws ∙ ap (λ x. ys ++ x ∷ ws) (sym e.1)) e.0 (compared vs is (ts ++ r ∷ []) ys e.0)
 
 -- nothing was found, nor ahead of the token that is refused: no form is begun in the text
-pub clean_text : {ts : List Token} {turns : Turns} {c : Config} (r : Token) (us : List Token) → Searched ts turns c → turn c r ≡ None → found turns c r ≡ None → ahead turns c r us ≡ None → Clean (ts ++ r ∷ us)
-clean_text {ts = ts} r us s refused h k = clean_of (ts ++ r ∷ us) (none_beyond r us s refused (no_more r s (none_in s) h) k)
+pub clean_text : {ts : List Token} {turns : Turns} {c : Config} (r : Token) (us : List Token) → Searched ts turns c → turn c r ≡ None → found turns c r ≡ None → ahead turns c r us ≡ None → further c r us ≡ None → Clean (ts ++ r ∷ us)
+clean_text {ts = ts} r us s refused h k j = clean_of (ts ++ r ∷ us) (none_beyond r us s refused (no_more r s (none_in s) h) k j)

@@ -22,11 +22,11 @@ use Rattle.js_reading.specs.Productions.{is_mark, is_class, is_proto_word}
 use Rattle.js_reading.specs.Sentences.{Sentence}
 use Rattle.js_reading.specs.Turns.{Config, turn, tree_of, is_for, goal_of_place}
 use Rattle.js_reading.specs.Unsupported.{Unsupported, Async, Proto}
-use Rattle.js_reading.specs.Found.{Find, or_else, is_free, is_key, at_object, first_of, twos, two, proto_key, three, three_ahead, three_over, aheads, ahead, Turns, found, Searched, Clean, same_start, BegunAt}
-use Rattle.js_reading.specs.Reads.{goal_of, after_gap_of, continued, next_for, asked_for, Lexes, no_token, one_more, without_comments, start_of, Reads, Supported, LeftOutThere, Leads, one_met, two_met, next_two}
+use Rattle.js_reading.specs.Found.{Find, or_else, is_free, is_key, at_object, first_of, twos, two, proto_key, three, three_ahead, three_over, aheads, ahead, further, Turns, found, Searched, Clean, same_start, BegunAt}
+use Rattle.js_reading.specs.Reads.{goal_of, after_gap_of, continued, next_for, asked_for, Lexes, no_token, one_more, without_comments, start_of, Reads, Supported, LeftOutThere, Leads, one_met, two_met, next_two, NoneFurther}
 use Rattle.js_reading.proofs.goals.Apart.{Onto, onto_same, onto_on, stands_for, onto_moved, length_append, starts_apart, text_apart}
 use Rattle.js_reading.proofs.goals.Asked.{next_asked}
-use Rattle.js_reading.proofs.finding.Finds.{found_begins, ahead_begins}
+use Rattle.js_reading.proofs.finding.Finds.{found_begins, ahead_begins, further_begins}
 use Rattle.js_reading.proofs.goals.ForGoals.{asked_stands, div_stands}
 use Rattle.js_reading.proofs.finding.Found.{clean, clean_text}
 use Rattle.js_reading.proofs.refusing.Refusing.{begins_dead}
@@ -155,6 +155,12 @@ leaves_out_ahead text place after c turns t x led s going h refused unfound q =
     let more = lexes_two after (next_token goal.Div after) refl in
     left_out text more.0 (led.tokens ++ t ∷ next_two after) x (lexes_then led.lexed (one_more (asked_stands (goal_of_place c) place (t, after) h) more.1)) (ahead_begins t (next_two after) x s unfound q)
     (no_tree text place c led going (stops_at place after c t h refused))
+
+pub leaves_out_further : (text : List ℕ) (place after end : Place) (c : Config) (turns : Turns) (t : Token) (us : List Token) (x : Unsupported × Loc) (led : Leads text place c) → Searched led.tokens turns c → tree_of (Some c) ≡ None → length (chars text) < 2 ^ 30 →
+    asked_for (goal_of_place c) place ≡ Some (t, after) → Lexes after us end → turn c t ≡ None → found turns c t ≡ None → further c t us ≡ Some x → LeftOutThere text x
+leaves_out_further text place after end c turns t us x led s going small h d refused unfound q =
+    let all = lexes_then led.lexed (one_more (asked_stands (goal_of_place c) place (t, after) h) d) in
+    left_out text end (led.tokens ++ t ∷ us) x all (further_begins t us x s (text_apart text (led.tokens ++ t ∷ us) end all small) refused unfound q) (no_tree text place c led going (stops_at place after c t h refused))
 
 -- what is no token for Div ends no form
 other_mark : (k : Kind) → is_for goal.Div k ≡ false → (p : Punctuator) → is_kind (T.Punctuator p) k ≡ false
@@ -296,8 +302,8 @@ supports_ended text place c turns led s none = record {
     nowhere h = absurd cc
 
 pub supports_refused : (text : List ℕ) (place after : Place) (c : Config) (turns : Turns) (r : Token) (led : Leads text place c) → Searched led.tokens turns c →
-    asked_for (goal_of_place c) place ≡ Some (r, after) → turn c r ≡ None → found turns c r ≡ None → ahead turns c r (next_two after) ≡ None → Supported text (offset_of (token_place goal.Div place))
-supports_refused text place after c turns r led s h refused none none_further = record {
+    asked_for (goal_of_place c) place ≡ Some (r, after) → turn c r ≡ None → found turns c r ≡ None → ahead turns c r (next_two after) ≡ None → NoneFurther c r after → Supported text (offset_of (token_place goal.Div place))
+supports_refused text place after c turns r led s h refused none none_ahead_ none_further = record {
   reached = record { tokens = led.tokens; place = place; lexed = led.lexed; there = refl };
   place = c;
   ran = led.ran;
@@ -310,7 +316,7 @@ supports_refused text place after c turns r led s h refused none none_further = 
         let e : Some (r, after) ≡ Some (t, p) = sym h ∙ g in
         let same : r ≡ t = ap (λ (o : Option (Token × Place)). elim o [ None ↦ r | Some z ↦ z.0 ]) e in
         let here : after ≡ p = ap (λ (o : Option (Token × Place)). elim o [ None ↦ after | Some z ↦ z.1 ]) e in
-        subst (λ x. Clean (led.tokens ++ x ∷ others)) same (clean_text r others s refused none (none_ahead turns c r after end others (subst (λ x. Lexes x others end) (sym here) d) none_further))
+        subst (λ x. Clean (led.tokens ++ x ∷ others)) same (let e = subst (λ x. Lexes x others end) (sym here) d in clean_text r others s refused none (none_ahead turns c r after end others e none_ahead_) (none_further others end e))
 
 -- ---- places of one position
 
@@ -343,8 +349,8 @@ same_itself : (l : Loc) → same_start l l ≡ true
 same_itself l = both_true (eq-eqb l.start.line l.start.line refl) (eq-eqb l.start.column l.start.column refl)
 
 -- a place further on has another position
-further : (text : List ℕ) (p q : Place) (c : ℕ) (cs : List ℕ) → characters_of q ≡ chars text → length (chars text) < 2 ^ 30 → q.before ≡ p.before ++ c ∷ cs → p.after ≡ c ∷ (cs ++ q.after) → position_of p ≡ position_of q → ⊥
-further text p q c cs within small befores afters is = true≢false (sym (same_itself (loc_at (position_of p))) ∙ apart)
+farther : (text : List ℕ) (p q : Place) (c : ℕ) (cs : List ℕ) → characters_of q ≡ chars text → length (chars text) < 2 ^ 30 → q.before ≡ p.before ++ c ∷ cs → p.after ≡ c ∷ (cs ++ q.after) → position_of p ≡ position_of q → ⊥
+farther text p q c cs within small befores afters is = true≢false (sym (same_itself (loc_at (position_of p))) ∙ apart)
   where
     low : length (p.before ++ c ∷ cs) < 2 ^ 30
     low =
@@ -361,5 +367,5 @@ one_place text p q within_p within_q small is = by_compared (compared p.before p
   where
     by_compared : Compared p q → offset_of p ≡ offset_of q
     by_compared (same h) = ap (λ b. length (encode_utf8_all b)) h
-    by_compared (before c cs h k) = absurd (further text p q c cs within_q small h k is)
-    by_compared (after c cs h k) = absurd (further text q p c cs within_p small h k (sym is))
+    by_compared (before c cs h k) = absurd (farther text p q c cs within_q small h k is)
+    by_compared (after c cs h k) = absurd (farther text q p c cs within_p small h k (sym is))

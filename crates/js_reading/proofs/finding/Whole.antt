@@ -1,9 +1,9 @@
 -- What begins a form is found at the form's last token, whatever stands after it.
 use Rattle.std.proofs.Common.{◌≡◌, ℕ, zero, suc, Bool, true, false, not, ◌&&◌, List, [], ◌∷◌, ◌++◌, Option, Some, None, codes, if◌then◌else◌, refl, sym, ap, subst, ◌∙◌, append_assoc, arith}
 use Rattle.std.specs.Prelude.{nat_le}
-use Rattle.std.proofs.lemmas.Bool.{true≢false, cond-true, cond-false, le-leb, leb-true}
+use Rattle.std.proofs.lemmas.Bool.{true≢false, cond-true, cond-false, eq-eqb, le-leb, leb-true}
 use Rattle.js_terms.specs.declared.place.Loc.{Loc}
-use Rattle.js_tree.specs.Plain.{Expr, Exprs, no_expr, more_expr}
+use Rattle.js_tree.specs.Plain.{Expr, Exprs, no_expr, more_expr, no_stmt}
 use Rattle.js_tree.specs.Plain as tree
 use Rattle.js_text.specs.Token.{Token, Kind, Word}
 use Rattle.js_text.specs.Token as T
@@ -14,10 +14,11 @@ use Rattle.js_reading.specs.Slots.{Wanted, Level, WithoutIn, Callee, Slot, Expr_
 use Rattle.js_reading.specs.Slots as slot
 use Rattle.js_reading.specs.Productions.{primary, call, is_mark, is_word}
 use Rattle.js_reading.specs.Sentences.{grip, fits, continues, Spells, SpellsItems}
-use Rattle.js_reading.specs.Turns.{place, Frame, InForm, Config, Due, Have, want, wanted, banned, have, turn, then_run, run}
+use Rattle.js_reading.specs.Turns.{place, Frame, InForm, InExpression, InFile, Config, Due, Have, Start, want, wanted, banned, have, turn, then_run, run}
 use Rattle.js_reading.specs.Unsupported
 use Rattle.js_reading.specs.Unsupported.{Unsupported, Stops, Begins, at_any_name, at_property, takes_call, takes_parameter, is_parenthesized_target, is_literal_pattern}
-use Rattle.js_reading.specs.Found.{Find, first_of, ones, one, twos, two, proto_key, three, left_sides, group, on_its_line, before_body, parameter, outside, opens_call, starts, asyncs, called, Turns}
+use Rattle.js_reading.specs.Found.{Find, first_of, ones, one, twos, two, proto_key, three, left_sides, group, on_its_line, before_body, parameter, outside, opens_call, same_start, starts, asyncs, called, argues, then_holds, arrow_comes, further, Turns}
+use Rattle.js_reading.proofs.finding.Coming.{comes_so}
 use Rattle.js_reading.proofs.sentences.Firsts.{remade}
 use Rattle.js_reading.proofs.finding.Groups.{is_group, target_group, literal_group, stands}
 use Rattle.js_reading.proofs.sentences.KindsLemmas.{kind_is}
@@ -56,6 +57,7 @@ pub data Whole : Config → List Token → Token → Type 0 where
   of_parameter : {c d : Config} {ts : List Token} {t : Token} → run c ts ≡ Some d → (parameter d t ≡ None → ⊥) → Whole c ts t
   of_this : {c : Config} {t : Token} → (outside c t ≡ None → ⊥) → Whole c [] t
   of_call : {c d : Config} {t opening : Token} {ts : List Token} {arrow : Token} → run c (t ∷ opening ∷ ts) ≡ Some d → opens_call t opening ≡ true → ((turns : Turns) → starts t.loc (asyncs turns) ≡ true → called turns d arrow ≡ None → ⊥) → Whole c (t ∷ opening ∷ ts) arrow
+  of_further : {c : Config} {t : Token} {us : List Token} {arrow : Token} → turn c t ≡ None → ((after : List Token) → further c t (us ++ arrow ∷ after) ≡ None → ⊥) → Whole c (t ∷ us) arrow
 
 pub record Parts (c : Config) (us : List Token) : Type 0 where
   pub before : List Token
@@ -142,17 +144,22 @@ opens : (l : Loc) (f : Frame) (fs : List Frame) (s : Token) → takes_call f ≡
 opens l (InForm slot.New w (Expr_ Callee) (By slot.Arguments ∷ []) []) fs s h = (Due slot.New w (Items_ P.CloseParenthesis ∷ []) (AnExpr primary (named_async l) ∷ []) s.loc fs, refl, of_new)
 opens l f fs s h = call_there l f fs s h
 
+same_itself : (l : Loc) → same_start l l ≡ true
+same_itself l = both_true (eq-eqb l.start.line l.start.line refl) (eq-eqb l.start.column l.start.column refl)
+
 closes_call : {l : Loc} {b : Bool} {xs : Exprs} {tx : List Token} (d : Config) (closing_ arrow : Token) → Called l d → SpellsItems b xs tx closing_ → closing_.kind ≡ T.Punctuator P.CloseParenthesis → is_mark P.Arrow arrow ≡ true →
-    (e : Config) × (run d (tx ++ closing_ ∷ []) ≡ Some e) × ((turns : Turns) → starts l (asyncs turns) ≡ true → called turns e arrow ≡ None → ⊥)
+    (e : Config) × (run d (tx ++ closing_ ∷ []) ≡ Some e) × ((turns : Turns) → starts l (asyncs turns) ≡ true → called turns e arrow ≡ None → ⊥) × (argues l e ≡ true)
 closes_call {l = l} {b = b} {xs = xs} {tx = tx} d closing_ arrow (of_call {m = m} {gs = gs}) dxs is is_arrow = (
   Due slot.Call l [] (AnExpr primary (named_async l) ∷ TheExprs b xs ∷ []) closing_.loc gs,
   due_run slot.Call l (Items_ P.CloseParenthesis ∷ []) (AnExpr primary (named_async l) ∷ []) m gs tx closing_ [] ∙ complete_items dxs no_expr slot.Call l P.CloseParenthesis [] (AnExpr primary (named_async l) ∷ []) gs [] refl is,
   λ turns h. fired _ (both_true is_arrow h),
+  same_itself l,
 )
 closes_call {l = l} {b = b} {xs = xs} {tx = tx} d closing_ arrow (of_new {w = w} {m = m} {gs = gs}) dxs is is_arrow = (
   Due slot.New w [] (AnExpr primary (named_async l) ∷ TheExprs b xs ∷ []) closing_.loc gs,
   due_run slot.New w (Items_ P.CloseParenthesis ∷ []) (AnExpr primary (named_async l) ∷ []) m gs tx closing_ [] ∙ complete_items dxs no_expr slot.New w P.CloseParenthesis [] (AnExpr primary (named_async l) ∷ []) gs [] refl is,
   λ turns h. fired _ (both_true is_arrow h),
+  same_itself l,
 )
 
 call_parts : {c : Config} {t : Token} {b : Bool} {xs : Exprs} {tx : List Token} (f : Frame) (fs : List Frame) (opening closing_ arrow : Token) (ts : List Token) → turn c t ≡ want t (f ∷ fs) → takes_call f ≡ true → is_word (codes "async") t ≡ true → is_mark P.OpenParenthesis opening ≡ true → opening.line_terminator_before ≡ false →
@@ -168,6 +175,38 @@ call_parts {c = c} {t = t} {tx = tx} f fs opening closing_ arrow ts begins takes
       are = ap (λ x. t ∷ opening ∷ x) (sym (append_assoc tx (closing_ ∷ []) (arrow ∷ ts)));
       whole = of_call (ap (λ o. then_run o (λ d. run d (opening ∷ (tx ++ closing_ ∷ [])))) named ∙ ap (λ o. then_run o (λ d. run d (tx ++ closing_ ∷ []))) opened.1 ∙ ended.1) (both_true is (both_true is_opening (ap not line))) ended.2;
     }
+
+-- where a file begins with the word
+async_read : (t : Token) → turn Start (remade t (Word (codes "async"))) ≡ Some (Have (AnExpr primary (named_async t.loc)) t.loc (InExpression t.loc ∷ InFile no_stmt ∷ []))
+unfolding is_keyword reserved_word
+async_read t = refl
+
+refused_parts : {c : Config} {t : Token} {b : Bool} {xs : Exprs} {tx : List Token} (opening closing_ arrow : Token) (ts : List Token) → turn c t ≡ None → is_word (codes "async") t ≡ true → at_any_name c ≡ false → is_mark P.OpenParenthesis opening ≡ true → opening.line_terminator_before ≡ false →
+    SpellsItems b xs tx closing_ → is_mark P.CloseParenthesis closing_ ≡ true → is_mark P.Arrow arrow ≡ true → Parts c (t ∷ opening ∷ (tx ++ closing_ ∷ arrow ∷ ts))
+refused_parts {c = c} {t = t} {tx = tx} opening closing_ arrow ts refused is unnamed is_opening line dxs is_closing is_arrow =
+    record {
+      before = t ∷ opening ∷ (tx ++ closing_ ∷ []);
+      last = arrow;
+      after = ts;
+      are = ap (λ x. t ∷ opening ∷ x) (sym (append_assoc tx (closing_ ∷ []) (arrow ∷ ts)));
+      whole = of_further refused (λ after h. fired _ (both_true (ap not unnamed) (both_true (both_true is (both_true is_opening (ap not line))) (comes_there after))) h);
+    }
+  where
+    here : Config
+    here = Have (AnExpr primary (named_async t.loc)) t.loc (InExpression t.loc ∷ InFile no_stmt ∷ [])
+
+    read : turn Start t ≡ Some here
+    read =
+        of_kind (λ s. turn Start s ≡ Some (Have (AnExpr primary (named_async s.loc)) s.loc (InExpression s.loc ∷ InFile no_stmt ∷ []))) t (Word (codes "async")) (kind_is (Word (codes "async")) t.kind is) (async_read t)
+
+    opened : OpensCall t.loc (InExpression t.loc) (InFile no_stmt ∷ []) opening
+    opened = of_kind (λ s. OpensCall t.loc (InExpression t.loc) (InFile no_stmt ∷ []) s) opening (T.Punctuator P.OpenParenthesis) (kind_is (T.Punctuator P.OpenParenthesis) opening.kind is_opening) (opens t.loc (InExpression t.loc) (InFile no_stmt ∷ []) opening refl)
+
+    comes_there : (after : List Token) → then_holds (turn Start t) (λ d. arrow_comes t.loc d (opening ∷ ((tx ++ closing_ ∷ []) ++ arrow ∷ after))) ≡ true
+    comes_there after =
+        let ended = closes_call opened.0 closing_ arrow opened.2 dxs (kind_is (T.Punctuator P.CloseParenthesis) closing_.kind is_closing) is_arrow in
+        ap (λ o. then_holds o (λ d. arrow_comes t.loc d (opening ∷ ((tx ++ closing_ ∷ []) ++ arrow ∷ after)))) read
+        ∙ comes_so t.loc (opening ∷ (tx ++ closing_ ∷ [])) here ended.0 arrow after (ap (λ o. then_run o (λ d. run d (tx ++ closing_ ∷ []))) opened.1 ∙ ended.1) ended.3 is_arrow
 
 -- ---- each form
 
@@ -196,6 +235,7 @@ stops_parts {c = c} (Unsupported.shorthand {t = t} {sign = sign} {ts = ts} name 
 stops_parts {c = c} (Unsupported.async_name {t = t} {ts = ts} name arrow is unnamed named_ line is_arrow) =
     record { before = t ∷ name ∷ []; last = arrow; after = ts; are = refl; whole = of_three (λ h. fired _ (both_true (free c t (codes "async") is unnamed) (both_true named_ (both_true (ap not line) is_arrow))) h) }
 stops_parts (Unsupported.async_arguments f fs opening closing_ arrow ts begins takes is is_opening line dxs is_closing is_arrow) = call_parts f fs opening closing_ arrow ts begins takes is is_opening line dxs is_closing is_arrow
+stops_parts (Unsupported.async_refused opening closing_ arrow ts refused is unnamed is_opening line dxs is_closing is_arrow) = refused_parts opening closing_ arrow ts refused is unnamed is_opening line dxs is_closing is_arrow
 stops_parts (Unsupported.target_after {i = i} {e = e} {t = t} f fs next ts begins fit de is at go) = group_parts f fs next ts begins fit de (target_group e is) (λ h. fired _ (both_true is (both_true fit (both_true at (ap not go)))) (off_at (left_sides i e t.loc f next) 2 h))
 
 pub parts : {u : Unsupported} {c : Config} {us : List Token} → Begins u c us → Parts c us

@@ -1,9 +1,9 @@
 use Rattle.js_reading.proofs.goals.Apart.{text_apart}
-use Rattle.js_reading.proofs.finding.Finds.{found_begins, ahead_begins}
+use Rattle.js_reading.proofs.finding.Finds.{found_begins, ahead_begins, further_begins}
 use Rattle.js_reading.proofs.heights.Floors.{low}
 use Rattle.js_reading.proofs.finding.Found.{clean, clean_more, clean_text}
 use Rattle.js_reading.proofs.goals.Goals.{asks}
-use Rattle.js_reading.proofs.finding.LeftOut.{leaves_out, leaves_out_ahead, supports_ended, supports_refused, one_place}
+use Rattle.js_reading.proofs.finding.LeftOut.{leaves_out, leaves_out_ahead, leaves_out_further, supports_ended, supports_refused, one_place}
 use Rattle.js_reading.proofs.heights.Opening.{begins_more}
 use Rattle.js_reading.proofs.sentences.Reading.{complete}
 use Rattle.js_reading.proofs.refusing.Refusing.{this_begins, stops_run, begins_dead}
@@ -57,7 +57,7 @@ pub returns-clause-finds_ended : goal.returns-clause-finds_ended
 returns-clause-finds_ended c = λ ts turns d t s h. clean_more t s h
 
 pub returns-clause-finds_refused : goal.returns-clause-finds_refused
-returns-clause-finds_refused c = λ ts turns d r us s refused h k. clean_text r us s refused h k
+returns-clause-finds_refused c = λ ts turns d r us s refused h k j. clean_text r us s refused h k j
 
 pub returns-clause-finds_begun : goal.returns-clause-finds_begun
 returns-clause-finds_begun c = λ ts turns d t us x s apart h. found_begins t us x s apart h
@@ -65,11 +65,17 @@ returns-clause-finds_begun c = λ ts turns d t us x s apart h. found_begins t us
 pub returns-clause-finds_ahead : goal.returns-clause-finds_ahead
 returns-clause-finds_ahead c = λ ts turns d r us x s none h. ahead_begins r us x s none h
 
+pub returns-clause-finds_further : goal.returns-clause-finds_further
+returns-clause-finds_further c = λ ts turns d r us x s apart refused none h. further_begins r us x s apart refused none h
+
 pub returns-clause-leaves_out : goal.returns-clause-leaves_out
 returns-clause-leaves_out c = leaves_out
 
 pub returns-clause-leaves_out_ahead : goal.returns-clause-leaves_out_ahead
 returns-clause-leaves_out_ahead c = leaves_out_ahead
+
+pub returns-clause-leaves_out_further : goal.returns-clause-leaves_out_further
+returns-clause-leaves_out_further c = leaves_out_further
 
 pub returns-clause-supports_ended : goal.returns-clause-supports_ended
 returns-clause-supports_ended c = supports_ended

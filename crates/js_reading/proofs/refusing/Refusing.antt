@@ -483,6 +483,7 @@ stops_there u c us fine (Unsupported.async_function {t = t} {word = word} {ts = 
 stops_there u c us fine (Unsupported.async_name {t = t} {ts = ts} name arrow is unnamed named_ line is_arrow) = async_name_stops t name arrow c ts fine unnamed (word_is (codes "async") t is) named_ line (mark_is P.Arrow arrow is_arrow)
 stops_there u c us fine (Unsupported.async_arguments {t = t} f fs opening closing_ arrow ts begins takes is is_opening line dxs is_closing is_arrow) =
     arguments_stop t opening closing_ arrow c f fs ts fine begins (word_is (codes "async") t is) (mark_is P.OpenParenthesis opening is_opening) dxs (mark_is P.CloseParenthesis closing_ is_closing) (mark_is P.Arrow arrow is_arrow)
+stops_there u c us fine (Unsupported.async_refused {t = t} {tx = tx} opening closing_ arrow ts refused is unnamed is_opening line dxs is_closing is_arrow) = first_stops c t (opening ∷ (tx ++ closing_ ∷ arrow ∷ ts)) refused
 stops_there u c us fine (Unsupported.async_method {t = t} {key = key} {ts = ts} is at key_is line) = word_key_stops t key (codes "async") c ts (word_is (codes "async") t is) at key_is
 stops_there u c us fine (Unsupported.generator {t = t} {star = star} {ts = ts} is unnamed is_star) = generator_stops t star c ts fine unnamed (word_is (codes "function") t is) (mark_is P.Star star is_star)
 stops_there u c us fine (Unsupported.generator_method {t = t} {ts = ts} is at) = star_stops t c ts (mark_is P.Star t is) at
