@@ -9,6 +9,7 @@ pub mod SortLemmas
 pub mod ReaderLemmas
 pub mod DigitsLemmas
 pub mod WholeText
+pub mod KeptLemmas
 pub mod FitLemmas
 pub mod MapLemmas
 pub mod SearchLemmas

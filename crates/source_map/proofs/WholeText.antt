@@ -29,11 +29,11 @@ no-float-sources (Some text ∷ sources) = no-float-sources sources
 pub no_float : (parts : Parts) → has_float (map_data parts) ≡ false
 no_float parts = ap (λ b. false || (b || (items_have_float (items_of (map source_data parts.sources)) || (false || false)))) (no-float-names parts.names) ∙ ap (λ b. false || (false || (b || (false || false)))) (no-float-sources parts.sources)
 
-flat-names : (texts : List (List ℕ)) → items_depth (items_of (map (λ text. string text) texts)) ≡ 0
+pub flat-names : (texts : List (List ℕ)) → items_depth (items_of (map (λ text. string text) texts)) ≡ 0
 flat-names [] = refl
 flat-names (text ∷ texts) = ap (λ n. max 0 n) (flat-names texts)
 
-flat-sources : (sources : List (Option (List ℕ))) → items_depth (items_of (map source_data sources)) ≡ 0
+pub flat-sources : (sources : List (Option (List ℕ))) → items_depth (items_of (map source_data sources)) ≡ 0
 flat-sources [] = refl
 flat-sources (None ∷ sources) = ap (λ n. max 0 n) (flat-sources sources)
 flat-sources (Some text ∷ sources) = ap (λ n. max 0 n) (flat-sources sources)

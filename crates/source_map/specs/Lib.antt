@@ -4,6 +4,7 @@ pub mod Map
 pub mod Read
 pub mod Trace
 pub mod Write
+pub mod Kept
 pub mod Rows
 pub mod private
 pub mod Laws

@@ -5,6 +5,7 @@ mod composed;
 mod digit;
 mod fault;
 mod fit;
+mod kept;
 mod laws;
 mod line;
 mod map;
@@ -20,8 +21,8 @@ mod steps;
 mod written;
 
 pub use fault::MapFault;
-pub use laws::reading;
-pub use map::{SourceMap, compose, read, write};
+pub use laws::{keeping, reading};
+pub use map::{InputMap, SourceMap, compose, kept_text, look_at, read, write};
 pub use place::{Origin, Parts, Segment, Traced};
 pub use rows::worked_maps;
 pub use steps::Steps;

@@ -1,5 +1,6 @@
 ghost use Rattle.std.specs.Prelude.{◌≡◌, ◌≢◌, ◌≤◌, ◌-◌, ◌+◌, ◌*◌, ◌^◌, ℕ, length, option_map, Ok, Err, IfOk, IfErr, IfSome, IfNone};
 ghost use Rattle.source_map.specs.declared.fault.MapFault.TheVariants.{Memory as OutOfMemory};
+ghost use Rattle.source_map.specs.Kept.{HasTexts};
 ghost use Rattle.source_map.specs.Laws.{IsMap};
 ghost use Rattle.source_map.specs.Read.{source_map_of};
 ghost use Rattle.source_map.specs.Trace as spec;
@@ -9,7 +10,8 @@ use crate::fault::MapFault;
 use crate::laws::reading;
 use crate::place::{Parts, Traced};
 use crate::steps::Steps;
-use crate::{composed, fit, reader, search, written};
+use crate::{composed, fit, kept, reader, search, written};
+use cov_object::SourceMapText;
 use items::Memory;
 use std::alloc::Global;
 use std::marker::Model;
@@ -21,8 +23,12 @@ pub struct SourceMap {
     parts: Parts,
 }
 
+/// A source map of a file that was itself made from other sources.
+pub type InputMap = SourceMap;
+
 impl Model for SourceMap {
     ghost use Rattle.source_map.specs.declared.place.Parts.{Parts};
+    ghost use Rattle.source_map.specs.Kept.{HasTexts};
     ghost use Rattle.source_map.specs.Laws.{IsMap};
 
     ghost Value = { Parts };
@@ -107,4 +113,18 @@ pub fn write(alloc: Global, map: &SourceMap) -> Result<Vec<u8>, Memory>
     ensures reads_back { (most : ℕ) → IfOk result (λ text. length text.items ≤ most → source_map_of most text.items ≡ Ok map.now) }
 {
     written::write(alloc, &map.parts)
+}
+
+/// The map as the coverage of a file keeps it: its text. Want of memory is the only error.
+pub fn kept_text(alloc: Global, map: &SourceMap) -> Result<SourceMapText, Memory>
+    ensures { IfOk result (λ text. text ≡ map_text map.now) }
+{
+    kept::kept_parts(alloc, &map.parts)
+}
+
+/// Does nothing but look at the texts of a map, which are UTF-8 as its type says.
+pub fn look_at(map: &SourceMap)
+    ensures { HasTexts map.now }
+{
+    kept::look_at_parts(&map.parts);
 }

@@ -188,7 +188,7 @@ fn source_values(alloc: Global, parts: &Parts) -> Result<Vec<Value>, Memory>
 }
 
 // The map as JSON.
-fn value_of(alloc: Global, parts: &Parts) -> Result<Value, Memory>
+pub(crate) fn value_of(alloc: Global, parts: &Parts) -> Result<Value, Memory>
     ensures { IfOk result (λ value. view value ≡ spec.map_data parts.now) }
 {
     let mappings = mappings_of(alloc, parts.segments.as_slice())?;
