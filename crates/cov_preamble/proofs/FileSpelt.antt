@@ -9,6 +9,7 @@ use Rattle.json.specs.Print.{escape_byte}
 use Rattle.js_tree.specs.Plain.{StringKey}
 use Rattle.js_reading.specs.Makes.{is_proto}
 use Rattle.cov_object.specs.Branch.{BranchCoverage}
+use Rattle.cov_object.specs.SourceMapText.{data_of}
 use Rattle.cov_object.specs.Json.{by_key, object_of, numbered, count_data, column_data, position_data, location_data, function_data, branch_data, path_counts_data, statements_data, statement_counts_data, functions_data, function_counts_data, branches_data, branch_counts_data, with_hash, with_source_map, file_data}
 use Rattle.cov_object.specs.declared.file.FileCoverage.{FileCoverage}
 use Rattle.cov_object.specs.declared.file.FunctionCoverage.{FunctionCoverage}
@@ -20,7 +21,7 @@ use Rattle.cov_object.proofs.DataForms.{put-depth}
 use Rattle.cov_rewritten.specs.Laws.{IsSpelt, AreSpelt, MembersAreSpelt}
 use Rattle.cov_rewritten.specs.Preamble.{json_string}
 use Rattle.cov_rewritten.proofs.DecimalKeys.{decimal_key}
-use Rattle.cov_preamble.specs.Texts.{HasTexts, HaveNames, HaveKinds}
+use Rattle.cov_preamble.specs.Texts.{HasTexts, HaveNames, HaveKinds, IsSpeltMap}
 
 -- ---- a value that is spelt, and how deep it nests at most
 
@@ -116,6 +117,10 @@ path_key = ((codes "path", (refl, refl)), refl)
 hash_key : Key (codes "hash")
 unfolding chars escape_byte lib.Utf8.encode
 hash_key = ((codes "hash", (refl, refl)), refl)
+
+source_map_key : Key (codes "inputSourceMap")
+unfolding chars escape_byte lib.Utf8.encode
+source_map_key = ((codes "inputSourceMap", (refl, refl)), refl)
 
 statement_map_key : Key (codes "statementMap")
 unfolding chars escape_byte lib.Utf8.encode
@@ -261,11 +266,15 @@ hashed : (hash : Option (List ℕ)) (ms : Members) → IfSome hash IsUtf8 → Fi
 hashed (Some hash) ms utf8 fits = put_fits 5 (codes "hash") (string hash) ms hash_key (text_value 5 hash utf8) fits
 hashed None ms utf8 fits = fits
 
-unmapped : (map : Option (List ℕ)) (ms : Members) → map ≡ None → Fits 5 ms → Value 6 (object (with_source_map map ms))
-unmapped None ms e fits = record { spelt = fits.spelt; within = omega (arith, fits.within) }
-unmapped (Some text) ms e fits = absurd (cc)
+as_object : (ms : Members) → Fits 5 ms → Value 6 (object ms)
+as_object ms fits = record { spelt = fits.spelt; within = omega (arith, fits.within) }
+
+mapped : (map : Option (List ℕ)) (ms : Members) → IfSome map IsSpeltMap → Fits 5 ms → Fits 5 (with_source_map map ms)
+mapped None ms is fits = fits
+mapped (Some text) ms is fits = put_fits 5 (codes "inputSourceMap") (data_of text) ms source_map_key (record { spelt = is.spelt; within = is.within }) fits
 
 pub file_value : (file : FileCoverage) → HasTexts file → Value 6 (file_data file)
 file_value file has =
     let members = put_all 5 (members_of_file file) no_members (members_fit file has) (none_fit 5) in
-    unmapped file.input_source_map (with_hash file.hash (by_key (members_of_file file))) has.unmapped (hashed file.hash (by_key (members_of_file file)) has.hash members)
+    let ms = with_hash file.hash (by_key (members_of_file file)) in
+    as_object (with_source_map file.input_source_map ms) (mapped file.input_source_map ms has.source_map (hashed file.hash (by_key (members_of_file file)) has.hash members))

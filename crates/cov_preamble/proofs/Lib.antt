@@ -7,3 +7,4 @@ pub mod Members
 pub mod Named
 pub mod Ours
 pub mod Small
+pub mod Entries

@@ -6,6 +6,7 @@ use Rattle.js_terms.specs.declared.operators.UnaryOperator.TheVariants as unary
 use Rattle.js_tree.specs.Plain.{Expr, ObjectLiteral, FunctionExpression, Parenthesized, NamedMember, Call, Unary, Binary, Logical, Stmt, Block, FunctionDeclaration, MakeFunction, MakeFunctionBody, KeyValue, StringKey, Property, Properties, push_properties, no_expr, no_property, no_param, Stmts, no_stmt, more_stmt}
 use Rattle.serde_json.specs.Data.{Data, string}
 use Rattle.cov_object.specs.Json as json
+use Rattle.cov_object.specs.SourceMapText as kept
 use Rattle.cov_object.specs.declared.file.FileCoverage.{FileCoverage}
 use Rattle.cov_object.specs.declared.file.StatementCoverage.{StatementCoverage}
 use Rattle.cov_object.specs.declared.file.FunctionCoverage.{FunctionCoverage}
@@ -55,11 +56,17 @@ abbrev pub with_hash : Option (List ℕ) → Properties → Properties
 with_hash None members = members
 with_hash (Some hash) members = with_text (codes "hash") hash members
 
+-- where it has one, its source map
+abbrev pub with_source_map : Option (List ℕ) → Properties → Properties
+with_source_map None members = members
+with_source_map (Some text) members = push_properties members (entry (codes "inputSourceMap") (kept.data_of text))
+
 -- what is told of a file, in the order of the keys
 abbrev pub with_file : FileCoverage → Properties → Properties
 with_file file members =
     with_things (λ (statement : StatementCoverage). json.count_data statement.count) (λ (statement : StatementCoverage). json.location_data statement.location) (codes "s") (codes "statementMap") file.statements
     (with_text (codes "path") file.path
+    (with_source_map file.input_source_map
     (with_hash file.hash
     (with_things (λ (function : FunctionCoverage). json.count_data function.count) json.function_data (codes "f") (codes "fnMap") file.functions
-    (with_things json.path_counts_data json.branch_data (codes "b") (codes "branchMap") file.branches members))))
+    (with_things json.path_counts_data json.branch_data (codes "b") (codes "branchMap") file.branches members)))))

@@ -8,6 +8,7 @@ mod objects;
 mod pieces;
 mod spelled;
 mod things;
+mod values;
 mod whole;
 mod zero;
 

@@ -192,10 +192,8 @@ fn hash_of(zero: &FileCoverage) -> &str
 
 /// What stands before the statements of a counted file: a function of this name, which at its first
 /// call puts the file's coverage under the global object, unless coverage with the same hash is there,
-/// and then becomes one that only answers it; and a call of it. The coverage has a hash and no source
-/// map.
+/// and then becomes one that only answers it; and a call of it. The coverage has a hash.
 pub fn preamble(alloc: Global, own: &str, zero: &FileCoverage) -> Result<Items<Stmt>, Memory>
-    requires { zero.now.input_source_map ≡ None }
     ensures { IfOk result (λ list. plain_stmts list ≡ spec.preamble own.now zero.now.path (pieces.hash_of zero.now) (file_data zero.now)) }
 {
     let path = json_string(alloc, zero.path.as_str())?;

@@ -1,4 +1,4 @@
-ghost use Rattle.std.specs.Prelude.{◌≡◌, decimal, map, string_bytes, None, IfOk, OnOk};
+ghost use Rattle.std.specs.Prelude.{◌≡◌, decimal, map, string_bytes, IfOk, OnOk};
 ghost use Rattle.serde_json.specs.Data.{Data};
 ghost use Rattle.js_tree.specs.Tree.{plain_expr, plain_properties};
 ghost use Rattle.cov_object.specs.Json as json;
@@ -8,6 +8,7 @@ ghost use Rattle.cov_rewritten.specs.Preamble as spec;
 
 use crate::objects::{numeral, object, put, string};
 use crate::things::{branch, function, location, path_counts};
+use crate::values::source_map;
 use cov_object::{BranchCoverage, FileCoverage, FunctionCoverage, StatementCoverage};
 use items::{Items, Memory};
 use js_tree::{Expr, Property};
@@ -152,6 +153,23 @@ fn put_hash(alloc: Global, members: &mut Items<Property>, zero: &FileCoverage) -
     }
 }
 
+// Puts the source map at the end of the members, if there is one.
+fn put_source_map(
+    alloc: Global,
+    members: &mut Items<Property>,
+    zero: &FileCoverage,
+) -> Result<(), Memory>
+    ensures { OnOk result (plain_properties members.new ≡ pieces.with_source_map zero.now.input_source_map (plain_properties members.old)) }
+{
+    match &zero.input_source_map {
+        Some(map) => {
+            let value = source_map(alloc, map)?;
+            put(alloc, members, "inputSourceMap", value)
+        }
+        None => Ok(()),
+    }
+}
+
 // The members of the coverage of a file, in the order of their keys.
 fn put_file(alloc: Global, members: &mut Items<Property>, zero: &FileCoverage) -> Result<(), Memory>
     ensures { OnOk result (plain_properties members.new ≡ pieces.with_file zero.now (plain_properties members.old)) }
@@ -159,6 +177,7 @@ fn put_file(alloc: Global, members: &mut Items<Property>, zero: &FileCoverage) -
     put_things(alloc, members, "b", "branchMap", zero.branches.as_slice())?;
     put_things(alloc, members, "f", "fnMap", zero.functions.as_slice())?;
     put_hash(alloc, members, zero)?;
+    put_source_map(alloc, members, zero)?;
     put_text(alloc, members, "path", zero.path.as_str())?;
     put_things(
         alloc,
@@ -170,10 +189,9 @@ fn put_file(alloc: Global, members: &mut Items<Property>, zero: &FileCoverage) -
     Ok(())
 }
 
-// The coverage of a file, which has no source map, as an expression: as its JSON spells it.
+// The coverage of a file as an expression: as its JSON spells it.
 #[tactic(auto, using(crate::proofs::FileData::file_literal))]
 pub(crate) fn zero_literal(alloc: Global, zero: &FileCoverage) -> Result<Expr, Memory>
-    requires { zero.now.input_source_map ≡ None }
     ensures { IfOk result (λ e. plain_expr e ≡ spec.literal (json.file_data zero.now)) }
 {
     let mut members = Items::new(alloc);

@@ -49,7 +49,7 @@ have_kinds n (construct.Function name declared body ∷ list) = have_kinds n lis
 have_kinds n (construct.Branch kind loc paths ∷ list) = (kind_utf8 kind, have_kinds (n + 1) list)
 
 has_texts : (path hash : List ℕ) (list : List Construct) → IsUtf8 path → IsUtf8 hash → AreNamed list → HasTexts (zero_file path hash list)
-has_texts path hash list p q named = record { path = p; hash = q; unmapped = refl; names = have_names 0 named; kinds = have_kinds 0 list }
+has_texts path hash list p q named = record { path = p; hash = q; source_map = tt; names = have_names 0 named; kinds = have_kinds 0 list }
 
 named : (bytes : List ℕ) (tree : File) → Accepted bytes tree → AreNamed (constructs_file tree)
 named bytes tree source = names_functions tree (accepted_prints has_tokens false bytes tree source.utf8 source.reads source.unbroken)
