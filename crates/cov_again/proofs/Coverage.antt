@@ -34,19 +34,15 @@ use Rattle.cov_object.specs.declared.file.FileCoverage.{FileCoverage}
 use Rattle.cov_rewritten.specs.Preamble.{json_string}
 use Rattle.cov_expected.specs.Told.{json_of, files_members}
 use Rattle.cov_expected.specs.Expected.{counted_file, counted_files, expected}
-use Rattle.cov_expected.specs.Laws.{IsOther, AreApart, AreUnmapped, TellsFiles}
+use Rattle.cov_expected.specs.Laws.{IsOther, AreApart, HavePlainMaps, TellsFiles}
 use Rattle.cov_counted.specs.Literals.{SpellsUnits}
-use Rattle.cov_counted.specs.Accepted.{path_of, zero_of, zero_at, HaveLiterals, files_of, IsTellable}
+use Rattle.cov_counted.specs.Accepted.{Content, path_of, zero_of, zero_at, HaveLiterals, files_of, IsTellable}
 use Rattle.cov_counted.specs.Entries.{CountsEntries}
 use Rattle.cov_again.proofs.Entries.{stays_tellable}
 
-path_is : (bytes : List ℕ) (o : Option Source) → (zero_of bytes o).path ≡ path_of o
-path_is bytes None = refl
-path_is bytes (Some source) = refl
-
-pub no_map : (bytes : List ℕ) (o : Option Source) → (zero_of bytes o).input_source_map ≡ None
-no_map bytes None = refl
-no_map bytes (Some source) = refl
+path_is : (content : Content) (o : Option Source) → (zero_of content o).path ≡ path_of o
+path_is content None = refl
+path_is content (Some source) = refl
 
 -- one of two that isn't there is neither
 neither : (a b : Bool) → (a || b) ≡ false → (a ≡ false) × (b ≡ false)
@@ -70,18 +66,18 @@ nothing_told = ap₂ (λ depth value. if nat_le depth max_depth then files_or_fa
 nothing : (h : Heap) → own h (number_of place.Global) coverage_name ≡ None → IsCoverage h []
 nothing h e = record { tree = form.Object []; is = record { levels = 0; is = ap (property_within 0 h) e }; told = nothing_told }
 
-module _ (bytes : ℕ → List ℕ) (p : Sources) (literals : HaveLiterals bytes p) (tellable : (file : ℕ) → IsTellable (zero_at bytes p file)) (prepared : Prepared (files_of bytes p literals) p) where
+module _ (content : ℕ → Content) (p : Sources) (literals : HaveLiterals content p) (tellable : (file : ℕ) → IsTellable (zero_at content p file)) (prepared : Prepared (files_of content p literals) p) where
   abbrev files : ℕ → FileCounters
-  files = files_of bytes p literals
+  files = files_of content p literals
 
   abbrev zero : ℕ → FileCoverage
-  zero = zero_at bytes p
+  zero = zero_at content p
 
   module _ (spells : SpellsUnits) (counts : CountsEntries) where
     units_are : (file : ℕ) → (files file).path.units ≡ name_units (zero file).path
     units_are file =
         let o = slice_get p.files file in
-        let e = path_is (bytes file) o in
+        let e = path_is (content file) o in
         spells (path_of o) (subst IsUtf8 e (tellable file).formed.path_text) ∙ ap name_units (sym e)
 
     data_are : (log : List Mark) → AllCountable log → (file : ℕ) → counted_by file log (data_of (files file).zero) ≡ json_of (file_data (counted_file log file (zero file)))
@@ -100,7 +96,7 @@ module _ (bytes : ℕ → List ℕ) (p : Sources) (literals : HaveLiterals bytes
   apart : (i j : ℕ) → is_counted p i ≡ true → is_counted p j ≡ true → i ≢ j → (zero i).path ≡ (zero j).path → ⊥
   apart i j ci cj differ e =
       let o = slice_get p.files in
-      let same : path_of (o i) ≡ path_of (o j) = sym (path_is (bytes i) (o i)) ∙ e ∙ path_is (bytes j) (o j) in
+      let same : path_of (o i) ≡ path_of (o j) = sym (path_is (content i) (o i)) ∙ e ∙ path_is (content j) (o j) in
       let units = ap (λ w. (json_string w).units) same in
       true_false ((bytes_eq-Decides (files i).path.units (files j).path.units).1 units) (prepared.paths i j differ ci cj)
 
@@ -118,7 +114,7 @@ module _ (bytes : ℕ → List ℕ) (p : Sources) (literals : HaveLiterals bytes
 
   module _ (log : List Mark) (short : length log < 2 ^ 53) where
     one : (file : ℕ) → IsTellable (counted_file log file (zero file))
-    one file = stays_tellable log file short (bytes file) (slice_get p.files file) (tellable file)
+    one file = stays_tellable log file short (content file) (slice_get p.files file) (tellable file)
 
     all_formed : (started : List ℕ) → AreFormed (counted_files zero log started)
     all_formed [] = tt
@@ -128,9 +124,9 @@ module _ (bytes : ℕ → List ℕ) (p : Sources) (literals : HaveLiterals bytes
     all_small [] = tt
     all_small (file ∷ started) = let t = one file in ((t.statements, t.functions, t.branches), all_small started)
 
-    all_unmapped : (started : List ℕ) → AreUnmapped (counted_files zero log started)
-    all_unmapped [] = tt
-    all_unmapped (file ∷ started) = (no_map (bytes file) (slice_get p.files file), all_unmapped started)
+    all_plain : (started : List ℕ) → HavePlainMaps (counted_files zero log started)
+    all_plain [] = tt
+    all_plain (file ∷ started) = ((one file).source_map, all_plain started)
 
   by_started : TellsFiles → SpellsUnits → CountsEntries → (log : List Mark) (started : List ℕ) (h : Heap) → length log < 2 ^ 53 → EachOnce (is_counted p) started → AllCountable log → Tells files log started h →
       IsCoverage h (expected zero log started)
@@ -139,8 +135,8 @@ module _ (bytes : ℕ → List ℕ) (p : Sources) (literals : HaveLiterals bytes
       let fs = file ∷ started in
       tells h t.property (counted_files zero log fs) (named h (Some t.property) t.has)
       (subst (λ ms. Represents h t.property.value (Members ms)) (members_are spells counts log countable fs) t.tells)
-      (all_apart log fs once) (all_formed log short fs) (all_small log short fs) (all_unmapped log short fs)
+      (all_apart log fs once) (all_formed log short fs) (all_small log short fs) (all_plain log short fs)
 
-  pub told_coverage : TellsFiles → SpellsUnits → CountsEntries → (log : List Mark) (started : List ℕ) (h : Heap) → length log < 2 ^ 53 → Told (files_of bytes p literals) (is_counted p) log started h →
-      IsCoverage h (expected (zero_at bytes p) log started)
+  pub told_coverage : TellsFiles → SpellsUnits → CountsEntries → (log : List Mark) (started : List ℕ) (h : Heap) → length log < 2 ^ 53 → Told (files_of content p literals) (is_counted p) log started h →
+      IsCoverage h (expected (zero_at content p) log started)
   told_coverage tells spells counts log started h short t = by_started tells spells counts log started h short t.each_once t.countable t.tells

@@ -13,8 +13,9 @@ use Rattle.js_terms.specs.declared.construct.ConstructKind.{ConstructKind}
 use Rattle.js_terms.specs.declared.construct.ConstructKind.TheVariants as construct_kind
 use Rattle.js_walk.specs.Constructs.{constructs_file}
 use Rattle.js_meaning.specs.Program.{Source}
+use Rattle.cov_hash.specs.Hash.{hash_text}
 use Rattle.cov_maps.specs.Located.{location_at}
-use Rattle.cov_maps.specs.Zero.{spelling_of, zero_path, zero_statements, zero_functions, zero_branches, zero_file}
+use Rattle.cov_maps.specs.Zero.{spelling_of, zero_path, zero_statements, zero_functions, zero_branches, zero_file, with_map}
 use Rattle.cov_object.specs.Branch.{BranchCoverage, if_paths, settled_paths, IsSettled}
 use Rattle.cov_object.specs.Numbered.{Ascends, AreSmall}
 use Rattle.cov_object.specs.private.Formed.{IsStatement, IsFunction, ArePaths, IsBranch, EachThing, IsFormed}
@@ -24,7 +25,7 @@ use Rattle.cov_object.specs.declared.file.FunctionCoverage.{FunctionCoverage}
 use Rattle.cov_object.specs.declared.file.PathCoverage.{PathCoverage}
 use Rattle.cov_object.specs.declared.file.StatementCoverage.{StatementCoverage}
 use Rattle.cov_expected.specs.Expected.{entries, counted_statement, counted_function, counted_paths, counted_branch, counted_file}
-use Rattle.cov_counted.specs.Accepted.{zero_of, IsTellable}
+use Rattle.cov_counted.specs.Accepted.{Content, zero_of, IsTellable}
 
 -- ---- coverage that begins with zero
 
@@ -75,9 +76,13 @@ zero_each_branch i (construct.Branch kind loc paths ∷ rest) = (settled_zero (s
 zero_all : (path hash : List ℕ) (list : List Construct) → AreZero (zero_file path hash list)
 zero_all path hash list = record { statements = zero_each_statement 0 list; functions = zero_each_function 0 list; branches = zero_each_branch 0 list }
 
-begins_zero : (bytes : List ℕ) (o : Option Source) → AreZero (zero_of bytes o)
-begins_zero bytes None = zero_all [] _ []
-begins_zero bytes (Some source) = zero_all source.path _ (constructs_file source.tree)
+mapped_zero : (map : Option (List ℕ)) (file : FileCoverage) → AreZero file → AreZero (with_map map file)
+mapped_zero map file z = record { statements = z.statements; functions = z.functions; branches = z.branches }
+
+begins_zero : (content : Content) (o : Option Source) → AreZero (zero_of content o)
+begins_zero content None = mapped_zero content.map (zero_file [] (hash_text content.bytes) []) (zero_all [] (hash_text content.bytes) [])
+begins_zero content (Some source) =
+    mapped_zero content.map (zero_file source.path (hash_text content.bytes) (constructs_file source.tree)) (zero_all source.path (hash_text content.bytes) (constructs_file source.tree))
 
 -- ---- how often a mark stands in a log
 
@@ -160,11 +165,12 @@ module _ (log : List Mark) (file : ℕ) (short : length log < 2 ^ 53) where
     source_map = f.source_map;
   }
 
-  pub stays_tellable : (bytes : List ℕ) (o : Option Source) → IsTellable (zero_of bytes o) → IsTellable (counted_file log file (zero_of bytes o))
-  stays_tellable bytes o t =
-      let zero = zero_of bytes o in record {
-        formed = formed zero t.formed (begins_zero bytes o);
+  pub stays_tellable : (content : Content) (o : Option Source) → IsTellable (zero_of content o) → IsTellable (counted_file log file (zero_of content o))
+  stays_tellable content o t =
+      let zero = zero_of content o in record {
+        formed = formed zero t.formed (begins_zero content o);
         statements = small (counted_statement log file) (λ x. refl) zero.statements t.statements;
         functions = small (counted_function log file) (λ x. refl) zero.functions t.functions;
         branches = small (counted_branch log file) (λ x. refl) zero.branches t.branches;
+        source_map = t.source_map;
       }

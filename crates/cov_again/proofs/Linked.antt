@@ -32,7 +32,7 @@ use Rattle.js_counted.specs.Files.{FileCounters}
 use Rattle.js_counted.specs.Program.{preamble_of, counter_code, counted_program}
 use Rattle.js_counted.proofs.Preamble as proved
 use Rattle.cov_suits.specs.Suited.{own_name}
-use Rattle.cov_counted.specs.Accepted.{path_of, zero_of, more_before, first_at, HaveLiterals, files_of}
+use Rattle.cov_counted.specs.Accepted.{Content, path_of, zero_of, more_before, first_at, HaveLiterals, files_of}
 use Rattle.cov_counted.proofs.Numbers.{two_codes, added_is}
 use Rattle.cov_again.specs.Replaced.{rewritten_tree, replaced_source, replaced_sources, replaced}
 use Rattle.cov_again.specs.Laws.{LinksReplaced}
@@ -69,9 +69,9 @@ record Becomes (l : Linked File) (tree : File) (code : ℕ) : Type 0 where
   is : l.tree ≡ tree
   next : l.next.code ≡ code
 
-module _ (bytes : ℕ → List ℕ) (p : Sources) (literals : HaveLiterals bytes p) where
+module _ (content : ℕ → Content) (p : Sources) (literals : HaveLiterals content p) where
   abbrev files : ℕ → FileCounters
-  files = files_of bytes p literals
+  files = files_of content p literals
 
   abbrev c : Setting
   c = counter_code files p
@@ -134,19 +134,19 @@ module _ (bytes : ℕ → List ℕ) (p : Sources) (literals : HaveLiterals bytes
   }
 
   one_file : (i d k m : ℕ) (x : Source) (xs : List Source) → Left i d k (x ∷ xs) → m ≡ d + k → (counted : Bool) →
-      Becomes (link_file Unmarked (if counted then rewritten_tree (bytes i) x else x.tree) (from m)) (instrumented_file c counted i (link_file (marking counted i) x.tree (from k)).tree)
+      Becomes (link_file Unmarked (if counted then rewritten_tree (content i) x else x.tree) (from m)) (instrumented_file c counted i (link_file (marking counted i) x.tree (from k)).tree)
       ((d + (if counted then 2 else 0)) + (link_file (marking counted i) x.tree (from k)).next.code)
   one_file i d k m x xs l e true =
       let at = l.at i 0 (omega arith) in
       let shift = l.within i 0 (omega arith) in
       let first = l.first i 0 (omega arith) in
       let f = files i in
-      let data' = file_data (zero_of (bytes i) (Some x)) in
-      let linked_preamble = proved.preamble_linked f x.path (hash_text (bytes i)) data' (from m) (ap (λ o. json_string (path_of o)) at) refl
-      ((literals i).spelled ∙ ap (λ o. literal (file_data (zero_of (bytes i) o))) at) (omega (arith, e, first)) in
-      let t = counted_tree i m k (own_name (Some x)) x.path (hash_text (bytes i)) data' x.tree
+      let data' = file_data (zero_of (content i) (Some x)) in
+      let linked_preamble = proved.preamble_linked f x.path (hash_text (content i).bytes) data' (from m) (ap (λ o. json_string (path_of o)) at) refl
+      ((literals i).spelled ∙ ap (λ o. literal (file_data (zero_of (content i) o))) at) (omega (arith, e, first)) in
+      let t = counted_tree i m k (own_name (Some x)) x.path (hash_text (content i).bytes) data' x.tree
       (λ mark. same_counter f.name i mark ∙ ap (λ n. counter n mark) (ap own_name at))
-      (subst (λ n. (link_stmts Unmarked (preamble n x.path (hash_text (bytes i)) data') (from m)).tree ≡ preamble_of f) (ap own_name at) linked_preamble)
+      (subst (λ n. (link_stmts Unmarked (preamble n x.path (hash_text (content i).bytes) data') (from m)).tree ≡ preamble_of f) (ap own_name at) linked_preamble)
       (omega (arith, e, shift)) in
       let b = next_code (Marked i) x.tree (from k) in
       let next = t.next in
@@ -158,12 +158,12 @@ module _ (bytes : ℕ → List ℕ) (p : Sources) (literals : HaveLiterals bytes
       record { is = t.is; next = omega (arith, next, shift) }
 
   files_same : (i d k m : ℕ) (xs : List Source) → Left i d k xs → m ≡ d + k →
-      link_sources (map uncounted_source (replaced_sources bytes i xs)) i m ≡ instrumented_sources c i (link_sources xs i k)
+      link_sources (map uncounted_source (replaced_sources content i xs)) i m ≡ instrumented_sources c i (link_sources xs i k)
   files_same i d k m [] l e = refl
   files_same i d k m (x ∷ xs) l e =
       let o = one_file i d k m x xs l e x.counted in
       ap₂ (λ (tree : File) (rest : List Source). record { path = x.path; tree = tree; counted = false } ∷ rest) o.is
-      (files_same (suc i) (d + (if x.counted then 2 else 0)) (link_source x i k).next.code (link_source (uncounted_source (replaced_source (bytes i) x)) i m).next.code xs (left_next i d k x xs l) o.next)
+      (files_same (suc i) (d + (if x.counted then 2 else 0)) (link_source x i k).next.code (link_source (uncounted_source (replaced_source (content i) x)) i m).next.code xs (left_next i d k x xs l) o.next)
 
   -- ---- the whole program
 
@@ -187,7 +187,7 @@ module _ (bytes : ℕ → List ℕ) (p : Sources) (literals : HaveLiterals bytes
   prelude_same : (tree : File) → (link_file Unmarked tree (from 0)).tree ≡ instrumented_prelude c (link_file Unmarked tree (from 0)).tree
   prelude_same (MakeFile body comments) = ap (λ xs. MakeFile xs comments) (sym (leaves_unmarked c 0 true body (from 0) (from 0) refl).0)
 
-  program_same : linked (uncounted (replaced bytes p)) ≡ counted_program files p
+  program_same : linked (uncounted (replaced content p)) ≡ counted_program files p
   program_same = ap₂ (λ (sources : List Source) (tree : File). record { files = sources; prelude = tree }) (files_same 0 0 start start p.files left_all (omega arith)) (prelude_same p.prelude)
 
 pub links_replaced : LinksReplaced

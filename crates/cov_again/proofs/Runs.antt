@@ -26,7 +26,7 @@ use Rattle.js_counted.proofs.Together.{silent}
 use Rattle.js_counted.proofs.Runs.{counters_run}
 use Rattle.cov_suits.specs.Suited.{own_name}
 use Rattle.cov_suits.proofs.Prelude.{prelude_readable}
-use Rattle.cov_counted.specs.Accepted.{AreAccepted, HaveLiterals, files_of}
+use Rattle.cov_counted.specs.Accepted.{Content, AreAccepted, HaveLiterals, files_of}
 use Rattle.cov_again.specs.Replaced.{replaced_sources, replaced}
 use Rattle.cov_again.proofs.Linked.{links_replaced}
 
@@ -38,20 +38,20 @@ one_there e = cc
 
 -- ---- by paths
 
-place_same : (bytes : ℕ → List ℕ) (path : List ℕ) (file : ℕ) (xs : List Source) →
-    position_or_len (λ source. bytes_eq source.path path) (replaced_sources bytes file xs) ≡ position_or_len (λ source. bytes_eq source.path path) xs
-place_same bytes path file [] = refl
-place_same bytes path file (x ∷ xs) = ap (λ n. if not (bytes_eq x.path path) then 1 + n else 0) (place_same bytes path (suc file) xs)
+place_same : (content : ℕ → Content) (path : List ℕ) (file : ℕ) (xs : List Source) →
+    position_or_len (λ source. bytes_eq source.path path) (replaced_sources content file xs) ≡ position_or_len (λ source. bytes_eq source.path path) xs
+place_same content path file [] = refl
+place_same content path file (x ∷ xs) = ap (λ n. if not (bytes_eq x.path path) then 1 + n else 0) (place_same content path (suc file) xs)
 
-as_many : (bytes : ℕ → List ℕ) (file : ℕ) (xs : List Source) → length (replaced_sources bytes file xs) ≡ length xs
-as_many bytes file [] = refl
-as_many bytes file (x ∷ xs) = ap (λ n. suc n) (as_many bytes (suc file) xs)
+as_many : (content : ℕ → Content) (file : ℕ) (xs : List Source) → length (replaced_sources content file xs) ≡ length xs
+as_many content file [] = refl
+as_many content file (x ∷ xs) = ap (λ n. suc n) (as_many content (suc file) xs)
 
-file_found : (bytes : ℕ → List ℕ) (p : Sources) (path : List ℕ) → file_at (replaced bytes p) path ≡ file_at p path
-file_found bytes p path =
-    ap (λ n. if nat_lt n (length (replaced bytes p).files) then Some n else None) (place_same bytes path 0 p.files)
+file_found : (content : ℕ → Content) (p : Sources) (path : List ℕ) → file_at (replaced content p) path ≡ file_at p path
+file_found content p path =
+    ap (λ n. if nat_lt n (length (replaced content p).files) then Some n else None) (place_same content path 0 p.files)
     ∙ ap (λ l. if nat_lt (position_or_len (λ (source : Source). bytes_eq source.path path) p.files) l
-    then Some (position_or_len (λ (source : Source). bytes_eq source.path path) p.files) else None) (as_many bytes 0 p.files)
+    then Some (position_or_len (λ (source : Source). bytes_eq source.path path) p.files) else None) (as_many content 0 p.files)
 
 -- ---- the program suits its counters
 
@@ -65,18 +65,18 @@ pub record DoesAs (files : ℕ → FileCounters) (p : Sources) (n : ℕ) (w : Wo
   pub output : r.store.output ≡ w.output
   pub told : Told files (is_counted p) w.log w.started r.store.heap
 
-module _ (bytes : ℕ → List ℕ) (p : Sources) (literals : HaveLiterals bytes p) where
+module _ (content : ℕ → Content) (p : Sources) (literals : HaveLiterals content p) where
   abbrev files : ℕ → FileCounters
-  files = files_of bytes p literals
+  files = files_of content p literals
 
   abbrev c : Setting
   c = counters files p
 
-  pub suits : MarksConstructs → IsNew → AreAccepted bytes p → Suits (counters (files_of bytes p literals) p) (linked p)
+  pub suits : MarksConstructs → IsNew → AreAccepted content p → Suits (counters (files_of content p literals) p) (linked p)
   suits marks new accepted =
       let added = preamble_codes files in
       let same = silent_lengths c added (silent files p) in
-      accepted_suits marks c p (λ file source e. (bytes file, accepted.files file source e)) (subst Readable (sym accepted.prelude) prelude_readable)
+      accepted_suits marks c p (λ file source e. ((content file).bytes, accepted.files file source e)) (subst Readable (sym accepted.prelude) prelude_readable)
       (constructs_counted c p (λ m h. h) (λ file source e counted. fresh_name new (slice_get p.files file) source e))
       (shifted_numbered c (linked p) (instrumented c (linked p)) added (instrumented_shifted c (linked p) added same (λ h. refl) (stand_there c (linked p) added same)))
 
@@ -88,11 +88,11 @@ module _ (bytes : ℕ → List ℕ) (p : Sources) (literals : HaveLiterals bytes
   does_as less file n s = record { short = entries_short less file n; end = sym s.ends; output = sym s.output; told = s.counted }
 
   abbrev q : Sources
-  q = replaced bytes p
+  q = replaced content p
 
   -- of the file that has the path
   at_file : (file n : ℕ) → plainly (meaning (uncounted q) file n) ≡ plainly (run (counted_program files p) file n)
-  at_file file n = ap (λ (s : Sources). plainly (run s file n)) (links_replaced bytes p literals)
+  at_file file n = ap (λ (s : Sources). plainly (run s file n)) (links_replaced content p literals)
 
   abbrev pub Run : (r : Sources) → (path : List ℕ) → (n : ℕ) → (w : World) → Type 0
   Run r path n w = (run : PlainRun) × (plain r path n ≡ Some run) × DoesAs files p n w run
@@ -104,12 +104,12 @@ module _ (bytes : ℕ → List ℕ) (p : Sources) (literals : HaveLiterals bytes
       subst (λ v. Run r path n v) (one_there e) (
         plainly (run (counted_program files p) file n),
         runs_plainly_alike r q alike path n
-            ∙ ap (λ o. option_map (λ file. plainly (meaning (uncounted q) file n)) o) (file_found bytes p path ∙ at)
+            ∙ ap (λ o. option_map (λ file. plainly (meaning (uncounted q) file n)) o) (file_found content p path ∙ at)
             ∙ ap Some (at_file file n),
         does_as less file n (same file),
       )
 
-  pub runs : MarksConstructs → RunsWithoutCounting → IsNew → AreAccepted bytes p → Prepared (files_of bytes p literals) p → (r : Sources) → AreAlike r (replaced bytes p) → (path : List ℕ) (n : ℕ) → n ≤ 2 ^ 53 - 1 →
+  pub runs : MarksConstructs → RunsWithoutCounting → IsNew → AreAccepted content p → Prepared (files_of content p literals) p → (r : Sources) → AreAlike r (replaced content p) → (path : List ℕ) (n : ℕ) → n ≤ 2 ^ 53 - 1 →
       (w : World) → world p path n ≡ Some w → Run r path n w
   runs marks less new accepted prepared r alike path n room w e =
       let su = suits marks new accepted in

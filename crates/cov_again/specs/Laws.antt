@@ -7,12 +7,12 @@ use Rattle.js_coverage.specs.Coverage.{IsCoverage}
 use Rattle.js_counted.specs.Program.{counted_program}
 use Rattle.cov_object.specs.declared.file.FileCoverage.{FileCoverage}
 use Rattle.cov_expected.specs.Expected.{expected}
-use Rattle.cov_counted.specs.Accepted.{AreAccepted, HavePaths, zero_at, HaveLiterals, files_of}
+use Rattle.cov_counted.specs.Accepted.{Content, AreAccepted, HavePaths, zero_at, HaveLiterals, files_of}
 use Rattle.cov_again.specs.Replaced.{replaced}
 
 -- linked, it is the linked program with its counters
 abbrev pub LinksReplaced : Type 0
-LinksReplaced = (bytes : ℕ → List ℕ) (p : Sources) (literals : HaveLiterals bytes p) → linked (uncounted (replaced bytes p)) ≡ counted_program (files_of bytes p literals) p
+LinksReplaced = (content : ℕ → Content) (p : Sources) (literals : HaveLiterals content p) → linked (uncounted (replaced content p)) ≡ counted_program (files_of content p literals) p
 
 -- ---- the two runs
 
@@ -27,5 +27,5 @@ pub record SameRun (zero : ℕ → FileCoverage) (w : World) (r : PlainRun) : Ty
 -- in which each counted file stands rewritten does without counting what the program of the sources does, and its heap holds the coverage
 -- of that, whichever file is run
 abbrev pub RunsReplaced : Type 0
-RunsReplaced = (bytes : ℕ → List ℕ) (p : Sources) → AreAccepted bytes p → HavePaths p → (r : Sources) → AreAlike r (replaced bytes p) →
-    (path : List ℕ) (n : ℕ) → n ≤ 2 ^ 53 - 1 → (w : World) → world p path n ≡ Some w → (run : PlainRun) × (plain r path n ≡ Some run) × SameRun (zero_at bytes p) w run
+RunsReplaced = (content : ℕ → Content) (p : Sources) → AreAccepted content p → HavePaths p → (r : Sources) → AreAlike r (replaced content p) →
+    (path : List ℕ) (n : ℕ) → n ≤ 2 ^ 53 - 1 → (w : World) → world p path n ≡ Some w → (run : PlainRun) × (plain r path n ≡ Some run) × SameRun (zero_at content p) w run

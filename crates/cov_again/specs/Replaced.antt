@@ -7,21 +7,21 @@ use Rattle.cov_hash.specs.Hash.{hash_text}
 use Rattle.cov_object.specs.Json.{file_data}
 use Rattle.cov_rewritten.specs.Whole.{rewritten}
 use Rattle.cov_suits.specs.Suited.{own_name}
-use Rattle.cov_counted.specs.Accepted.{zero_of}
+use Rattle.cov_counted.specs.Accepted.{Content, zero_of}
 
--- of a file with these bytes: with the name of its function, the file's path and hash, and zero for each of its constructs
-abbrev pub rewritten_tree : (bytes : List ℕ) → Source → File
-rewritten_tree bytes source =
-    rewritten (own_name (Some source)) source.path (hash_text bytes) (file_data (zero_of bytes (Some source))) source.tree
+-- of a file of which this was read: with the name of its function, the file's path and hash, and zero for each of its constructs
+abbrev pub rewritten_tree : Content → Source → File
+rewritten_tree content source =
+    rewritten (own_name (Some source)) source.path (hash_text content.bytes) (file_data (zero_of content (Some source))) source.tree
 
-abbrev pub replaced_source : (bytes : List ℕ) → Source → Source
-replaced_source bytes source =
-    record { path = source.path; tree = if source.counted then rewritten_tree bytes source else source.tree; counted = false }
+abbrev pub replaced_source : Content → Source → Source
+replaced_source content source =
+    record { path = source.path; tree = if source.counted then rewritten_tree content source else source.tree; counted = false }
 
--- the files from one on, each with its bytes
-abbrev pub replaced_sources : (bytes : ℕ → List ℕ) → (file : ℕ) → List Source → List Source
-replaced_sources bytes file [] = []
-replaced_sources bytes file (source ∷ sources) = replaced_source (bytes file) source ∷ replaced_sources bytes (suc file) sources
+-- the files from one on, each with what was read of it
+abbrev pub replaced_sources : (content : ℕ → Content) → (file : ℕ) → List Source → List Source
+replaced_sources content file [] = []
+replaced_sources content file (source ∷ sources) = replaced_source (content file) source ∷ replaced_sources content (suc file) sources
 
-abbrev pub replaced : (bytes : ℕ → List ℕ) → Sources → Sources
-replaced bytes p = record { files = replaced_sources bytes 0 p.files; prelude = p.prelude }
+abbrev pub replaced : (content : ℕ → Content) → Sources → Sources
+replaced content p = record { files = replaced_sources content 0 p.files; prelude = p.prelude }

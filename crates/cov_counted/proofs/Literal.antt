@@ -12,10 +12,10 @@ use Rattle.js_counter.specs.Represents.{JsonMembers}
 use Rattle.js_counter.specs.Literals as made
 use Rattle.js_counter.specs.Literals.{LiteralItems, LiteralMembers, exprs_of, properties, data_of, data_items, data_members, NoKey, ItemsApart, MembersApart}
 use Rattle.cov_rewritten.specs.Preamble.{json_string, literals, literal_members}
+use Rattle.cov_expected.specs.Plain.{Above, AreSorted, IsPlain, ArePlain, MembersArePlain}
 use Rattle.cov_expected.specs.Told.{text_of, json_of, items_json, members_json}
 use Rattle.cov_expected.proofs.Texts.{text_back}
-use Rattle.cov_expected.proofs.Ordered.{less_apart, unequal, cmp, Above, AreSorted}
-use Rattle.cov_expected.proofs.Values.{IsGood, AreGood, MembersAreGood}
+use Rattle.cov_expected.proofs.Ordered.{less_apart, unequal, cmp}
 use Rattle.cov_counted.specs.Literals.{SpellsUnits, LiteralOf}
 
 record ItemsOf (ds : Items) : Type 0 where
@@ -44,14 +44,14 @@ record SameFirst (key other : List ℕ) (rest more : JsonMembers) : Type 0 where
 same_first : (key other : List ℕ) (x y : json.Json) (rest more : JsonMembers) → json.members key x rest ≡ json.members other y more → SameFirst key other rest more
 same_first key other x y rest more e = record { is = cc; later = cc }
 
-no_key : (k : List ℕ) (made : LiteralMembers) (ms : Members) → data_members made ≡ members_json ms → IsUtf8 k → Above k ms → MembersAreGood ms → NoKey (name_units k) made
+no_key : (k : List ℕ) (made : LiteralMembers) (ms : Members) → data_members made ≡ members_json ms → IsUtf8 k → Above k ms → MembersArePlain ms → NoKey (name_units k) made
 no_key k made.empty ms e utf8 above good = tt
 no_key k (made.member q x made) no_members e utf8 above good = absurd (cc)
 no_key k (made.member q x made) (member l d ms) e utf8 above good =
     let first = same_first q.units (name_units l) (data_of x) (json_of d) (data_members made) (members_json ms) e in
     (ap (bytes_eq (name_units k)) first.is ∙ other_units k l utf8 good.0 above.0, no_key k made ms first.later utf8 above.1 good.2)
 
-no_key_here : (k : List ℕ) (ms : Members) (rest : MembersOf ms) → (json_string k).units ≡ name_units k → IsUtf8 k → Above k ms → MembersAreGood ms → NoKey (json_string k).units rest.made
+no_key_here : (k : List ℕ) (ms : Members) (rest : MembersOf ms) → (json_string k).units ≡ name_units k → IsUtf8 k → Above k ms → MembersArePlain ms → NoKey (json_string k).units rest.made
 no_key_here k ms rest is utf8 above good = subst (λ us. NoKey us rest.made) (sym is) (no_key k rest.made ms rest.tells utf8 above good)
 
 -- ---- each value
@@ -69,7 +69,7 @@ module _ (units : SpellsUnits) (spells : SpelledInDecimal) where
   a_string s utf8 = record { made = made.spelled_text (json_string s); spelled = refl; tells = ap json.Text (units s utf8); keys = tt }
 
   mutual
-    pub literal_of : (d : Data) → IsGood d → LiteralOf d
+    pub literal_of : (d : Data) → IsPlain d → LiteralOf d
     literal_of null good = record { made = made.null; spelled = refl; tells = refl; keys = tt }
     literal_of (boolean b) good = record { made = made.truth b; spelled = refl; tells = refl; keys = tt }
     literal_of (number (unsigned n)) good = a_number n good
@@ -83,7 +83,7 @@ module _ (units : SpellsUnits) (spells : SpelledInDecimal) where
         let of = members_of ms good.0 good.1 in
         record { made = made.plain of.made; spelled = ap (ObjectLiteral None) of.spelled; tells = ap json.Members of.tells; keys = of.keys }
 
-    items_of : (ds : Items) → AreGood ds → ItemsOf ds
+    items_of : (ds : Items) → ArePlain ds → ItemsOf ds
     items_of no_items good = record { made = made.none; spelled = refl; tells = refl; keys = tt }
     items_of (item d ds) good =
         let first = literal_of d good.0 in
@@ -95,7 +95,7 @@ module _ (units : SpellsUnits) (spells : SpelledInDecimal) where
           keys = (first.keys, rest.keys);
         }
 
-    members_of : (ms : Members) → AreSorted ms → MembersAreGood ms → MembersOf ms
+    members_of : (ms : Members) → AreSorted ms → MembersArePlain ms → MembersOf ms
     members_of no_members sorted good = record { made = made.empty; spelled = refl; tells = refl; keys = tt }
     members_of (member k d ms) sorted good =
         let first = literal_of d good.1 in

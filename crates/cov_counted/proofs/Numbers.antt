@@ -37,4 +37,4 @@ module _ (files : ℕ → FileCounters) where
       omega (arith, a, b, s)
 
 pub numbers_first : NumbersFirst
-numbers_first bytes p literals file = first_is (files_of bytes p literals) p file
+numbers_first content p literals file = first_is (files_of content p literals) p file

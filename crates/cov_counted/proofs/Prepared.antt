@@ -34,7 +34,7 @@ use Rattle.js_counted.specs.Program.{is_counted}
 use Rattle.js_bounds.specs.Bounds.{weights}
 use Rattle.cov_hash.specs.Hash.{hash_text}
 use Rattle.cov_maps.specs.Located.{location_at}
-use Rattle.cov_maps.specs.Zero.{spelling_of, zero_path, zero_statements, zero_functions, zero_branches, zero_file}
+use Rattle.cov_maps.specs.Zero.{spelling_of, zero_path, zero_statements, zero_functions, zero_branches, zero_file, with_map}
 use Rattle.cov_object.specs.Branch.{BranchCoverage, settled}
 use Rattle.cov_object.specs.Json.{count_data, path_counts_data, statement_counts_data, function_counts_data, branch_counts_data, file_data}
 use Rattle.cov_object.specs.declared.file.FunctionCoverage.{FunctionCoverage}
@@ -46,7 +46,7 @@ use Rattle.cov_suits.specs.Suited.{own_name, names}
 use Rattle.cov_expected.specs.Told.{text_of, json_of}
 use Rattle.cov_expected.proofs.Texts.{text_back}
 use Rattle.cov_expected.proofs.Ordered.{unequal}
-use Rattle.cov_counted.specs.Accepted.{AreAccepted, HavePaths, path_of, zero_of, HaveLiterals, files_of, NumbersFirst, AcceptedPrepared}
+use Rattle.cov_counted.specs.Accepted.{Content, AreAccepted, HavePaths, path_of, zero_of, HaveLiterals, files_of, NumbersFirst, AcceptedPrepared}
 use Rattle.cov_counted.proofs.Hexadecimal.{hash_utf8}
 use Rattle.cov_counted.proofs.Inherited.{none_ends_so, no_coverage}
 use Rattle.cov_counted.proofs.JsonUnits.{spells_units}
@@ -80,25 +80,32 @@ there (Some source) h = (source, refl)
 -- ---- the members of a file's data
 
 module _ (path hash : List ℕ) (xs : List Construct) where
-  child_hash : json_child (name_units hash_) (json_of (file_data (zero_file path hash xs))) ≡ Some (Text (name_units hash))
-  unfolding chars
-  child_hash = refl
+  abbrev zero_data : Option (List ℕ) → Json
+  zero_data map = json_of (file_data (with_map map (zero_file path hash xs)))
 
-  child_statements : json_child (name_units (codes "s")) (json_of (file_data (zero_file path hash xs))) ≡ Some (json_of (statement_counts_data (enumerate_from 0 (zero_statements xs))))
+  child_hash : (map : Option (List ℕ)) → json_child (name_units hash_) (zero_data map) ≡ Some (Text (name_units hash))
   unfolding chars
-  child_statements = refl
+  child_hash None = refl
+  child_hash (Some text) = refl
 
-  child_functions : json_child (name_units (codes "f")) (json_of (file_data (zero_file path hash xs))) ≡ Some (json_of (function_counts_data (enumerate_from 0 (zero_functions xs))))
+  child_statements : (map : Option (List ℕ)) → json_child (name_units (codes "s")) (zero_data map) ≡ Some (json_of (statement_counts_data (enumerate_from 0 (zero_statements xs))))
   unfolding chars
-  child_functions = refl
+  child_statements None = refl
+  child_statements (Some text) = refl
 
-  child_branches : json_child (name_units (codes "b")) (json_of (file_data (zero_file path hash xs))) ≡ Some (json_of (branch_counts_data (enumerate_from 0 (zero_branches xs))))
+  child_functions : (map : Option (List ℕ)) → json_child (name_units (codes "f")) (zero_data map) ≡ Some (json_of (function_counts_data (enumerate_from 0 (zero_functions xs))))
   unfolding chars
-  child_branches = refl
+  child_functions None = refl
+  child_functions (Some text) = refl
 
-hash_there : (bytes : List ℕ) (o : Option Source) → json_child (name_units hash_) (json_of (file_data (zero_of bytes o))) ≡ Some (Text (name_units (hash_text bytes)))
-hash_there bytes None = child_hash [] (hash_text bytes) []
-hash_there bytes (Some source) = child_hash source.path (hash_text bytes) (constructs_file source.tree)
+  child_branches : (map : Option (List ℕ)) → json_child (name_units (codes "b")) (zero_data map) ≡ Some (json_of (branch_counts_data (enumerate_from 0 (zero_branches xs))))
+  unfolding chars
+  child_branches None = refl
+  child_branches (Some text) = refl
+
+hash_there : (content : Content) (o : Option Source) → json_child (name_units hash_) (json_of (file_data (zero_of content o))) ≡ Some (Text (name_units (hash_text content.bytes)))
+hash_there content None = child_hash [] (hash_text content.bytes) [] content.map
+hash_there content (Some source) = child_hash source.path (hash_text content.bytes) (constructs_file source.tree) content.map
 
 -- ---- each mark has a zero
 
@@ -161,12 +168,12 @@ through x y key keys is = ap (option_and_then (λ z. number_in z keys)) is
 abbrev mark_of : ℕ → ConstructKind → (number path : ℕ) → Mark
 mark_of file kind number path = record { file = file; kind = kind; number = number; path = path }
 
-module _ (source hash : List ℕ) (xs : List Construct) (b : Bounded xs) (file : ℕ) where
+module _ (source_map : Option (List ℕ)) (source hash : List ℕ) (xs : List Construct) (b : Bounded xs) (file : ℕ) where
   abbrev Starts : ConstructKind → (number path : ℕ) → Type 0
-  Starts kind number path = IsCountable (mark_of file kind number path) × (number_in (json_of (file_data (zero_file source hash xs))) (way (mark_of file kind number path)) ≡ Some 0)
+  Starts kind number path = IsCountable (mark_of file kind number path) × (number_in (json_of (file_data (with_map source_map (zero_file source hash xs)))) (way (mark_of file kind number path)) ≡ Some 0)
 
   abbrev whole : Json
-  whole = json_of (file_data (zero_file source hash xs))
+  whole = json_of (file_data (with_map source_map (zero_file source hash xs)))
 
   starts : (kind : ConstructKind) (number path : ℕ) → Inside xs kind number path → Starts kind number path
   starts construct_kind.Statement number path inside =
@@ -176,7 +183,7 @@ module _ (source hash : List ℕ) (xs : List Construct) (b : Bounded xs) (file :
       let one = taken (zero_statements xs) number low in
       let no_path = inside.1 in (
         record { number_low = omega (arith, low, few, statements_few xs); path_low = omega (arith, no_path); one_path = inside.1 },
-        through whole (json_of (statement_counts_data (enumerate_from 0 (zero_statements xs)))) (name_units (codes "s")) (index_key number ∷ []) (child_statements source hash xs)
+        through whole (json_of (statement_counts_data (enumerate_from 0 (zero_statements xs)))) (name_units (codes "s")) (index_key number ∷ []) (child_statements source hash xs source_map)
             ∙ through (json_of (statement_counts_data (enumerate_from 0 (zero_statements xs)))) (json_of (count_data one.0.count)) (index_key number) [] (found (λ (s : StatementCoverage). count_data s.count) number (zero_statements xs) one.0 one.1 (omega (arith, few, statements_few xs)))
             ∙ ap Some (zero_statement xs number one.0 one.1),
       )
@@ -187,7 +194,7 @@ module _ (source hash : List ℕ) (xs : List Construct) (b : Bounded xs) (file :
       let one = taken (zero_functions xs) number low in
       let no_path = inside.1 in (
         record { number_low = omega (arith, low, few, functions_few xs); path_low = omega (arith, no_path); one_path = inside.1 },
-        through whole (json_of (function_counts_data (enumerate_from 0 (zero_functions xs)))) (name_units (codes "f")) (index_key number ∷ []) (child_functions source hash xs)
+        through whole (json_of (function_counts_data (enumerate_from 0 (zero_functions xs)))) (name_units (codes "f")) (index_key number ∷ []) (child_functions source hash xs source_map)
             ∙ through (json_of (function_counts_data (enumerate_from 0 (zero_functions xs)))) (json_of (count_data one.0.count)) (index_key number) [] (found (λ (f : FunctionCoverage). count_data f.count) number (zero_functions xs) one.0 one.1 (omega (arith, few, functions_few xs)))
             ∙ ap Some (zero_function xs number one.0 one.1),
       )
@@ -201,14 +208,14 @@ module _ (source hash : List ℕ) (xs : List Construct) (b : Bounded xs) (file :
       let low : number < length (zero_branches xs) = slice_get_within (zero_branches xs) number branch one.is in
       let path_low : path < 2 ^ 32 - 1 = omega (arith, few, short, among) in (
         record { number_low = omega (arith, low, few, branches_few xs); path_low = path_low; one_path = tt },
-        through whole (json_of (branch_counts_data (enumerate_from 0 (zero_branches xs)))) (name_units (codes "b")) (index_key number ∷ index_key path ∷ []) (child_branches source hash xs)
+        through whole (json_of (branch_counts_data (enumerate_from 0 (zero_branches xs)))) (name_units (codes "b")) (index_key number ∷ index_key path ∷ []) (child_branches source hash xs source_map)
             ∙ through (json_of (branch_counts_data (enumerate_from 0 (zero_branches xs)))) (json_of (path_counts_data branch)) (index_key number) (index_key path ∷ []) (found path_counts_data number (zero_branches xs) branch one.is (omega (arith, few, branches_few xs)))
             ∙ zero_count one.kind one.location places path among path_low,
       )
 
-module _ (laws : Laws) (marks_inside : MarksInside) (bytes : ℕ → List ℕ) (p : Sources) (accepted : AreAccepted bytes p) (literals : HaveLiterals bytes p) where
+module _ (laws : Laws) (marks_inside : MarksInside) (content : ℕ → Content) (p : Sources) (accepted : AreAccepted content p) (literals : HaveLiterals content p) where
   abbrev ZeroFor : Option Source → Mark → Type 0
-  ZeroFor o mark = IsCountable mark × (number_in (json_of (file_data (zero_of (bytes mark.file) o))) (way mark) ≡ Some 0)
+  ZeroFor o mark = IsCountable mark × (number_in (json_of (file_data (zero_of (content mark.file) o))) (way mark) ≡ Some 0)
 
   zero_for : (mark : Mark) (o : Option Source) → slice_get p.files mark.file ≡ o → IsTrue (is_construct mark.file o mark) → ZeroFor o mark
   zero_for mark None is has = absurd (cc)
@@ -219,8 +226,8 @@ module _ (laws : Laws) (marks_inside : MarksInside) (bytes : ℕ → List ℕ) (
       let some = ltb-true 0 n parts.1 in
       let construct : IsConstruct mark.file source.tree mark = omega (arith, some) in
       let inside = (marks_inside mark.file source.tree mark construct).1 in
-      let same = subst (λ t. Inside (constructs_file t) mark.kind mark.number mark.path) (laws.unmarked source.tree (prints (bytes mark.file) source.tree source_accepted)) inside in
-      starts source.path (hash_text (bytes mark.file)) (constructs_file source.tree) (bounded laws (bytes mark.file) source.tree source_accepted) mark.file mark.kind mark.number mark.path same
+      let same = subst (λ t. Inside (constructs_file t) mark.kind mark.number mark.path) (laws.unmarked source.tree (prints (content mark.file).bytes source.tree source_accepted)) inside in
+      starts (content mark.file).map source.path (hash_text (content mark.file).bytes) (constructs_file source.tree) (bounded laws (content mark.file).bytes source.tree source_accepted) mark.file mark.kind mark.number mark.path same
 
   zeros : (mark : Mark) → IsTrue (has_construct p mark) → IsCountable mark × (number_in (data_of (literals mark.file).made) (way mark) ≡ Some 0)
   zeros mark has =
@@ -230,10 +237,10 @@ module _ (laws : Laws) (marks_inside : MarksInside) (bytes : ℕ → List ℕ) (
   -- ---- paths
 
   module _ (paths : HavePaths p) where
-    path_units : (file : ℕ) (source : Source) → slice_get p.files file ≡ Some source → (files_of bytes p literals file).path.units ≡ name_units source.path
+    path_units : (file : ℕ) (source : Source) → slice_get p.files file ≡ Some source → (files_of content p literals file).path.units ≡ name_units source.path
     path_units file source is = ap (λ o. (json_string (path_of o)).units) is ∙ spells_units source.path (paths.utf8 file source is)
 
-    apart_units : (i j : ℕ) → i ≢ j → is_counted p i ≡ true → is_counted p j ≡ true → bytes_eq (files_of bytes p literals i).path.units (files_of bytes p literals j).path.units ≡ false
+    apart_units : (i j : ℕ) → i ≢ j → is_counted p i ≡ true → is_counted p j ≡ true → bytes_eq (files_of content p literals i).path.units (files_of content p literals j).path.units ≡ false
     apart_units i j other is also =
         let one = there (slice_get p.files i) is in
         let two = there (slice_get p.files j) also in
@@ -241,15 +248,15 @@ module _ (laws : Laws) (marks_inside : MarksInside) (bytes : ℕ → List ℕ) (
         (sym (text_back one.0.path (paths.utf8 i one.0 one.1)) ∙ ap text_of (sym (path_units i one.0 one.1) ∙ same ∙ path_units j two.0 two.1) ∙ text_back two.0.path (paths.utf8 j two.0 two.1)))
 
 pub accepted_prepared : Laws → MarksInside → NumbersFirst → AcceptedPrepared
-accepted_prepared laws inside numbers bytes p accepted paths literals = record {
+accepted_prepared laws inside numbers content p accepted paths literals = record {
   named = λ file. own_named (slice_get p.files file);
   keys = λ file. (literals file).keys;
-  hash = λ file is. ap (json_child (name_units hash_)) (literals file).tells ∙ hash_there (bytes file) (slice_get p.files file) ∙ ap (λ us. Some (Text us)) (sym (spells_units (hash_text (bytes file)) (hash_utf8 (bytes file))));
-  zeros = zeros laws inside bytes p accepted literals;
-  paths = apart_units laws inside bytes p accepted literals paths;
+  hash = λ file is. ap (json_child (name_units hash_)) (literals file).tells ∙ hash_there (content file) (slice_get p.files file) ∙ ap (λ us. Some (Text us)) (sym (spells_units (hash_text (content file).bytes) (hash_utf8 (content file).bytes)));
+  zeros = zeros laws inside content p accepted literals;
+  paths = apart_units laws inside content p accepted literals paths;
   inherited = λ file is.
       let one = there (slice_get p.files file) is in
-      subst (λ us. Bare opening (Some root) us) (sym (path_units laws inside bytes p accepted literals paths file one.0 one.1)) (none_ends_so one.0.path (paths.utf8 file one.0 one.1) (paths.ends file one.0 one.1));
+      subst (λ us. Bare opening (Some root) us) (sym (path_units laws inside content p accepted literals paths file one.0 one.1)) (none_ends_so one.0.path (paths.utf8 file one.0 one.1) (paths.ends file one.0 one.1));
   coverage_inherited = no_coverage;
-  first = λ file is. numbers bytes p literals file;
+  first = λ file is. numbers content p literals file;
 }

@@ -1,5 +1,5 @@
 -- The coverage that a source begins with can be told: what is counted of it is within bounds.
-use Rattle.std.proofs.Common.{◌≡◌, ℕ, ◌+◌, ◌^◌, ◌≤◌, Bool, true, false, List, [], ◌∷◌, length, map, Option, Some, None, codes, if◌then◌else◌, refl, arith}
+use Rattle.std.proofs.Common.{◌≡◌, ℕ, ◌+◌, ◌^◌, ◌≤◌, Bool, true, false, List, [], ◌∷◌, length, map, Option, Some, None, IfSome, codes, if◌then◌else◌, refl, arith}
 use Rattle.std.specs.Prelude.{bytes_eq, slice_get}
 use Rattle.std.specs.List.{enumerate_from}
 use Rattle.std.specs.Str.{IsUtf8}
@@ -21,16 +21,18 @@ use Rattle.js_layout.specs.Printable.{Printable}
 use Rattle.js_layout.proofs.Accepted.{accepted_prints}
 use Rattle.js_bounds.specs.Bounds.{weights, AreNamed, IsLow, IsLowIf, ArePathsLow, AreLow, CountsFew, NamesAreTexts, StandLow, HasNoMarks}
 use Rattle.cov_maps.specs.Located.{location_at}
-use Rattle.cov_maps.specs.Zero.{spelling_of, location_if, zero_path, zero_statements, zero_functions, zero_branches, zero_file}
+use Rattle.cov_maps.specs.Zero.{spelling_of, location_if, zero_path, zero_statements, zero_functions, zero_branches, zero_file, with_map}
 use Rattle.cov_object.specs.Branch.{if_paths, settled_paths}
 use Rattle.cov_object.specs.Location.{nowhere, same_location}
 use Rattle.cov_object.specs.Numbered.{AreSmall}
+use Rattle.cov_object.specs.SourceMapText.{IsSourceMap}
 use Rattle.cov_object.specs.private.Formed.{IsLocated, IsStatement, IsFunction, ArePaths, IsBranch, EachThing}
 use Rattle.cov_object.specs.declared.file.PathCoverage.{PathCoverage}
 use Rattle.cov_object.specs.declared.location.Location.{Location}
 use Rattle.cov_object.proofs.BranchLemmas.{settled-again}
 use Rattle.cov_object.proofs.Numbers.{ascends-from}
-use Rattle.cov_counted.specs.Accepted.{zero_of, IsTellable, AcceptedTellable}
+use Rattle.cov_expected.specs.Plain.{IsPlainMap}
+use Rattle.cov_counted.specs.Accepted.{IsMapText, zero_of, IsTellable, AcceptedTellable}
 use Rattle.cov_counted.proofs.Hexadecimal.{hash_utf8}
 
 -- ---- places
@@ -137,8 +139,16 @@ pub record Bounded (xs : List Construct) : Type 0 where
 pub prints : (bytes : List ℕ) (tree : File) → Accepted bytes tree → Printable tree
 prints bytes tree source = accepted_prints has_tokens false bytes tree source.utf8 source.reads source.unbroken
 
-tellable : (path hash : List ℕ) (xs : List Construct) → IsUtf8 path → IsUtf8 hash → Bounded xs → IsTellable (zero_file path hash xs)
-tellable path hash xs path_text text b = record {
+kept : (map : Option (List ℕ)) → IfSome map IsMapText → IfSome map (λ text. IsSourceMap text × IsUtf8 text)
+kept None is = tt
+kept (Some text) is = (is.is, is.utf8)
+
+plain : (map : Option (List ℕ)) → IfSome map IsMapText → IfSome map IsPlainMap
+plain None is = tt
+plain (Some text) is = is.plain
+
+tellable : (map : Option (List ℕ)) (path hash : List ℕ) (xs : List Construct) → IfSome map IsMapText → IsUtf8 path → IsUtf8 hash → Bounded xs → IsTellable (with_map map (zero_file path hash xs))
+tellable map path hash xs is path_text text b = record {
   formed = record {
     statements = statements_formed 0 xs b.placed b.low;
     functions = functions_formed 0 xs b.placed b.low b.named;
@@ -148,11 +158,12 @@ tellable path hash xs path_text text b = record {
     branches_ascend = ascends-from 0 (zero_branches xs);
     path_text = path_text;
     hash_text = text;
-    source_map = tt;
+    source_map = kept map is;
   };
   statements = small_from 0 (zero_statements xs) (let few = b.few in omega (arith, few, statements_few xs));
   functions = small_from 0 (zero_functions xs) (let few = b.few in omega (arith, few, functions_few xs));
   branches = small_from 0 (zero_branches xs) (let few = b.few in omega (arith, few, branches_few xs));
+  source_map = plain map is;
 }
 
 nothing : Bounded []
@@ -179,10 +190,10 @@ module _ (laws : Laws) where
       }
 
   pub accepted_tellable : AcceptedTellable
-  accepted_tellable bytes p accepted paths file = by (slice_get p.files file) refl
+  accepted_tellable content p accepted paths file = by (slice_get p.files file) refl
     where
-      by : (o : Option Source) → slice_get p.files file ≡ o → IsTellable (zero_of (bytes file) o)
-      by None is = tellable [] (hash_text (bytes file)) [] IsUtf8-nil (hash_utf8 (bytes file)) nothing
+      by : (o : Option Source) → slice_get p.files file ≡ o → IsTellable (zero_of (content file) o)
+      by None is = tellable (content file).map [] (hash_text (content file).bytes) [] (accepted.maps file) IsUtf8-nil (hash_utf8 (content file).bytes) nothing
       by (Some source) is =
-          tellable source.path (hash_text (bytes file)) (constructs_file source.tree) (paths.utf8 file source is) (hash_utf8 (bytes file))
-          (bounded (bytes file) source.tree (accepted.files file source is))
+          tellable (content file).map source.path (hash_text (content file).bytes) (constructs_file source.tree) (accepted.maps file) (paths.utf8 file source is) (hash_utf8 (content file).bytes)
+          (bounded (content file).bytes source.tree (accepted.files file source is))

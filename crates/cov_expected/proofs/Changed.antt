@@ -20,8 +20,7 @@ use Rattle.js_value.specs.Functions.{name_units}
 use Rattle.js_counter.specs.Represents.{Members, json_ticked, json_ticked_members, members}
 use Rattle.cov_expected.specs.Told.{text_of, json_of, members_json}
 use Rattle.cov_expected.proofs.Texts.{text_back, one_unit}
-use Rattle.cov_expected.proofs.Ordered.{less_apart, unequal, cmp, Entry, put_entry, Above, AreSorted}
-use Rattle.cov_object.proofs.ReadText.{sorted-fold}
+use Rattle.cov_expected.proofs.Ordered.{less_apart, unequal, cmp, Entry, put_entry, Above, AreSorted, sorted_all}
 
 -- ---- values changed by their keys
 
@@ -153,5 +152,5 @@ module _ {T : Type 0} (f : T → Data) (n : ℕ) (small : n < 2 ^ 64) (keys : Li
   pub numbered_ticked : (xs : List (ℕ × T)) → AreSmall xs → json_ticked (json_of (numbered f xs)) (decimal n ∷ keys) ≡ json_of (numbered f (map more xs))
   numbered_ticked xs few =
       let es = map entry xs in
-      ap Members (ticked_members (decimal n) keys change (by_key es) (sorted-fold es no_members tt) (all_fold (IsTick (decimal n) keys change) es no_members (all_ticks xs few) tt))
+      ap Members (ticked_members (decimal n) keys change (by_key es) (sorted_all es no_members tt) (all_fold (IsTick (decimal n) keys change) es no_members (all_ticks xs few) tt))
       ∙ ap (λ ms. Members (members_json ms)) (changed_all (at_key (decimal n) keys change) es no_members ∙ ap by_key (changed_things xs few))

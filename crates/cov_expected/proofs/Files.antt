@@ -23,7 +23,7 @@ use Rattle.js_coverage.specs.Coverage.{property_within}
 use Rattle.js_counter.specs.Represents.{Members}
 use Rattle.cov_expected.specs.Told.{value_of, entries_of, member_nesting, IsNew, MembersAreTellable, json_of, files_members}
 use Rattle.cov_expected.specs.Expected.{in_order}
-use Rattle.cov_expected.specs.Laws.{IsOther, AreApart, AreUnmapped, TellsFiles}
+use Rattle.cov_expected.specs.Laws.{IsOther, AreApart, HavePlainMaps, TellsFiles}
 use Rattle.cov_expected.proofs.Texts.{text_back, paired}
 use Rattle.cov_expected.proofs.Ordered.{cmp, turned, Entry, put_entry, Away, put_past}
 use Rattle.cov_expected.proofs.Values.{Value, value_back, tellable, nests, file_value}
@@ -32,17 +32,17 @@ use Rattle.cov_expected.proofs.Data.{tells_data}
 abbrev entry : FileCoverage → Entry
 entry file = (file.path, file_data file)
 
--- what is asked of the files, with small ids and no maps
+-- what is asked of the files, with small ids and plain maps
 record Asked (files : List FileCoverage) : Type 0 where
   formed : AreFormed files
   small : HaveSmallIds files
-  unmapped : AreUnmapped files
+  mapped : HavePlainMaps files
 
 rest : (file : FileCoverage) (files : List FileCoverage) → Asked (file ∷ files) → Asked files
-rest file files asked = record { formed = asked.formed.1; small = asked.small.1; unmapped = asked.unmapped.1 }
+rest file files asked = record { formed = asked.formed.1; small = asked.small.1; mapped = asked.mapped.1 }
 
 first : (file : FileCoverage) (files : List FileCoverage) → Asked (file ∷ files) → Value 6 (file_data file)
-first file files asked = file_value file asked.formed.0 asked.small.0.0 asked.small.0.1 asked.small.0.2 asked.unmapped.0
+first file files asked = file_value file asked.formed.0 asked.small.0.0 asked.small.0.1 asked.small.0.2 asked.mapped.0
 
 new_path : (file : FileCoverage) (files : List FileCoverage) → IsFormed file → AreFormed files → IsOther file.path files → IsNew (name_units file.path) (files_members files)
 new_path file [] formed all other = tt
@@ -98,10 +98,10 @@ module _ (file : FileCoverage) where
     asked : Asked all
 
   together : (one : FileCoverage) (files : List FileCoverage) → Asked (one ∷ []) → Asked files → Asked (one ∷ files)
-  together one files a b = record { formed = (a.formed.0, b.formed); small = (a.small.0, b.small); unmapped = (a.unmapped.0, b.unmapped) }
+  together one files a b = record { formed = (a.formed.0, b.formed); small = (a.small.0, b.small); mapped = (a.mapped.0, b.mapped) }
 
   alone : (one : FileCoverage) (files : List FileCoverage) → Asked (one ∷ files) → Asked (one ∷ [])
-  alone one files a = record { formed = (a.formed.0, tt); small = (a.small.0, tt); unmapped = (a.unmapped.0, tt) }
+  alone one files a = record { formed = (a.formed.0, tt); small = (a.small.0, tt); mapped = (a.mapped.0, tt) }
 
   placed_by : (o : Ordering) (next : FileCoverage) (files : List FileCoverage) → cmp file.path next.path ≡ o → IsOther file.path (next ∷ files) → Asked (file ∷ []) → Asked (next ∷ files) →
       IsPlaced files (placed file files) → IsPlaced (next ∷ files) (match_ordering o (file ∷ next ∷ files) (file ∷ files) (next ∷ placed file files))
@@ -170,8 +170,8 @@ same_members (file ∷ files) apart asked =
 -- ---- the coverage
 
 pub tells_files : TellsFiles
-tells_files h property files owns r apart formed small unmapped =
-    let asked : Asked files = record { formed = formed; small = small; unmapped = unmapped } in
+tells_files h property files owns r apart formed small mapped =
+    let asked : Asked files = record { formed = formed; small = small; mapped = mapped } in
     let ordered : Asked (in_order files) = all_asked files apart asked in
     let t = tells_data h property.value (Members (files_members files)) r (files_tellable files asked apart) 7 (omega (arith, files_nest files asked)) in
     let low : depth_of t.found ≤ max_depth = omega (arith, t.deep, files_nest files asked) in

@@ -9,8 +9,8 @@ use Rattle.std.specs.Cmp.Lexicographic.{slice_cmp}
 use Rattle.std.proofs.lemmas.Cmp.{nat_list_cmp_total}
 use Rattle.serde_json.specs.Data.{Data, Members, no_members, member, put}
 use Rattle.cov_object.specs.Json.{by_key}
-use Rattle.cov_object.proofs.ReadText.{sorted-fold}
-pub use Rattle.cov_object.proofs.ReadText.{Above, AreSorted}
+use Rattle.cov_object.proofs.ReadText as kept
+pub use Rattle.cov_expected.specs.Plain.{Above, AreSorted}
 
 abbrev pub cmp : List ℕ → List ℕ → Ordering
 cmp = slice_cmp nat_cmp
@@ -114,8 +114,27 @@ fold_append (e ∷ es) fs ms = fold_append es fs (put e.0 e.1 ms)
 
 -- Members in order stay as they are
 
+above_kept : (k : List ℕ) (ms : Members) → Above k ms → kept.Above k ms
+above_kept k no_members above = tt
+above_kept k (member l d ms) above = (above.0, above_kept k ms above.1)
+
+above_told : (k : List ℕ) (ms : Members) → kept.Above k ms → Above k ms
+above_told k no_members above = tt
+above_told k (member l d ms) above = (above.0, above_told k ms above.1)
+
+sorted_kept : (ms : Members) → AreSorted ms → kept.AreSorted ms
+sorted_kept no_members sorted = tt
+sorted_kept (member k d ms) sorted = (above_kept k ms sorted.0, sorted_kept ms sorted.1)
+
+sorted_told : (ms : Members) → kept.AreSorted ms → AreSorted ms
+sorted_told no_members sorted = tt
+sorted_told (member k d ms) sorted = (above_told k ms sorted.0, sorted_told ms sorted.1)
+
+pub sorted_all : (es : List Entry) (ms : Members) → AreSorted ms → AreSorted (fold put_entry ms es)
+sorted_all es ms sorted = sorted_told (fold put_entry ms es) (kept.sorted-fold es ms (sorted_kept ms sorted))
+
 pub sorted_put : (k : List ℕ) (d : Data) (ms : Members) → AreSorted ms → AreSorted (put k d ms)
-sorted_put k d ms sorted = sorted-fold ((k, d) ∷ []) ms sorted
+sorted_put k d ms sorted = sorted_all ((k, d) ∷ []) ms sorted
 
 abbrev pub entries : Members → List Entry
 entries no_members = []

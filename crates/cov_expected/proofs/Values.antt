@@ -1,5 +1,5 @@
 -- Values whose texts are UTF-8, whose numbers are whole and from 0 on, and whose objects have their members in order: as data, they tell themselves.
-use Rattle.std.proofs.Common.{◌≡◌, ℕ, suc, ◌<◌, ◌^◌, ◌≤◌, List, [], ◌∷◌, map, fold, Option, Some, None, IfSome, codes, decimal, refl, sym, ap, ◌∙◌, subst, arith}
+use Rattle.std.proofs.Common.{◌≡◌, ℕ, suc, ◌<◌, ◌^◌, ◌≤◌, List, [], ◌∷◌, map, fold, Option, Some, None, IfSome, codes, decimal, refl, sym, ap, ◌∙◌, arith}
 use Rattle.std.specs.Ordering.{match_ordering}
 use Rattle.std.specs.declared.cmp.Ordering.{Ordering}
 use Rattle.std.specs.declared.cmp.Ordering.TheVariants.{Less, Equal, Greater}
@@ -12,6 +12,7 @@ use Rattle.serde_json.specs.View.{items_of}
 use Rattle.cov_object.specs.Branch.{BranchCoverage}
 use Rattle.cov_object.specs.Json.{by_key, object_of, numbered, count_data, column_data, position_data, location_data, function_data, branch_data, path_counts_data, statements_data, statement_counts_data, functions_data, function_counts_data, branches_data, branch_counts_data, with_hash, with_source_map, file_data}
 use Rattle.cov_object.specs.Numbered.{AreSmall}
+use Rattle.cov_object.specs.SourceMapText.{data_of}
 use Rattle.cov_object.specs.private.Formed.{IsPlace, IsLocated, IsStatement, IsFunction, ArePaths, IsBranch, EachThing, IsFormed}
 use Rattle.cov_object.specs.declared.file.FileCoverage.{FileCoverage}
 use Rattle.cov_object.specs.declared.file.FunctionCoverage.{FunctionCoverage}
@@ -20,32 +21,14 @@ use Rattle.cov_object.specs.declared.location.Location.{Location}
 use Rattle.cov_object.specs.declared.location.Position.{Position}
 use Rattle.cov_object.proofs.DataForms.{put-depth}
 use Rattle.js_value.specs.Functions.{name_units}
+use Rattle.cov_expected.specs.Plain.{IsPlain, ArePlain, MembersArePlain, IsPlainMap}
 use Rattle.cov_expected.specs.Told.{value_of, items_value, entries_of, nesting, item_nesting, member_nesting, IsNew, IsTellable, AreTellable, MembersAreTellable, json_of, items_json, members_json}
 use Rattle.cov_expected.proofs.Texts.{text_back, paired}
 use Rattle.cov_expected.proofs.Ordered.{less_apart, cmp, Entry, put_entry, Above, AreSorted, entries, sorted_back, sorted_put}
 
-abbrev mutual
-  pub IsGood : Data → Type 0
-  IsGood null = Unit {0}
-  IsGood (boolean b) = Unit {0}
-  IsGood (number (unsigned n)) = n < 2 ^ 53
-  IsGood (number (negative z)) = ⊥
-  IsGood (number (float x)) = ⊥
-  IsGood (string s) = IsUtf8 s
-  IsGood (array ds) = AreGood ds
-  IsGood (object ms) = AreSorted ms × MembersAreGood ms
-
-  pub AreGood : Items → Type 0
-  AreGood no_items = Unit {0}
-  AreGood (item d ds) = IsGood d × AreGood ds
-
-  pub MembersAreGood : Members → Type 0
-  MembersAreGood no_members = Unit {0}
-  MembersAreGood (member k d ms) = IsUtf8 k × IsGood d × MembersAreGood ms
-
 -- they tell themselves
 mutual
-  pub value_back : (d : Data) → IsGood d → value_of (json_of d) ≡ d
+  pub value_back : (d : Data) → IsPlain d → value_of (json_of d) ≡ d
   value_back null good = refl
   value_back (boolean b) good = refl
   value_back (number (unsigned n)) good = refl
@@ -55,24 +38,24 @@ mutual
   value_back (array ds) good = ap array (items_back ds good)
   value_back (object ms) good = ap (λ es. object (by_key es)) (members_back ms good.1) ∙ ap object (sorted_back ms good.0)
 
-  items_back : (ds : Items) → AreGood ds → items_value (items_json ds) ≡ ds
+  items_back : (ds : Items) → ArePlain ds → items_value (items_json ds) ≡ ds
   items_back no_items good = refl
   items_back (item d ds) good = ap (λ x. item x (items_value (items_json ds))) (value_back d good.0) ∙ ap (item d) (items_back ds good.1)
 
-  members_back : (ms : Members) → MembersAreGood ms → entries_of (members_json ms) ≡ entries ms
+  members_back : (ms : Members) → MembersArePlain ms → entries_of (members_json ms) ≡ entries ms
   members_back no_members good = refl
   members_back (member k d ms) good =
       ap (λ t. (t, value_of (json_of d)) ∷ entries_of (members_json ms)) (text_back k good.0)
       ∙ ap (λ x. (k, x) ∷ entries_of (members_json ms)) (value_back d good.1)
       ∙ ap (λ es. (k, d) ∷ es) (members_back ms good.2)
 
-new_key : (k : List ℕ) (ms : Members) → IsUtf8 k → Above k ms → MembersAreGood ms → IsNew (name_units k) (members_json ms)
+new_key : (k : List ℕ) (ms : Members) → IsUtf8 k → Above k ms → MembersArePlain ms → IsNew (name_units k) (members_json ms)
 new_key k no_members utf8 above good = tt
 new_key k (member l d ms) utf8 above good =
     ((λ same. less_apart k l above.0 (sym (text_back k utf8) ∙ same ∙ text_back l good.0)), new_key k ms utf8 above.1 good.2)
 
 mutual
-  pub tellable : (d : Data) → IsGood d → IsTellable (json_of d)
+  pub tellable : (d : Data) → IsPlain d → IsTellable (json_of d)
   tellable null good = tt
   tellable (boolean b) good = tt
   tellable (number (unsigned n)) good = tt
@@ -82,11 +65,11 @@ mutual
   tellable (array ds) good = items_tellable ds good
   tellable (object ms) good = members_tellable ms good.0 good.1
 
-  items_tellable : (ds : Items) → AreGood ds → AreTellable (items_json ds)
+  items_tellable : (ds : Items) → ArePlain ds → AreTellable (items_json ds)
   items_tellable no_items good = tt
   items_tellable (item d ds) good = (tellable d good.0, items_tellable ds good.1)
 
-  members_tellable : (ms : Members) → AreSorted ms → MembersAreGood ms → MembersAreTellable (members_json ms)
+  members_tellable : (ms : Members) → AreSorted ms → MembersArePlain ms → MembersAreTellable (members_json ms)
   members_tellable no_members sorted good = tt
   members_tellable (member k d ms) sorted good =
       (paired k good.0, tellable d good.1, new_key k ms good.0 sorted.0 good.2, members_tellable ms sorted.1 good.2)
@@ -113,24 +96,24 @@ mutual
 -- ---- the data of files are such
 
 pub record Value (most : ℕ) (d : Data) : Type 0 where
-  pub good : IsGood d
+  pub good : IsPlain d
   pub within : depth d ≤ most
 
 record Fits (most : ℕ) (ms : Members) : Type 0 where
   sorted : AreSorted ms
-  good : MembersAreGood ms
+  good : MembersArePlain ms
   within : members_depth ms ≤ most
 
 deeper : {d : Data} (a b : ℕ) → a ≤ b → Value a d → Value b d
 deeper a b low v = record { good = v.good; within = omega (arith, low, v.within) }
 
-good_by : (o : Ordering) (k l : List ℕ) (d e : Data) (ms rest : Members) → IsUtf8 k → IsGood d → MembersAreGood (member l e ms) → MembersAreGood rest →
-    MembersAreGood (match_ordering o (member k d (member l e ms)) (member l d ms) (member l e rest))
+good_by : (o : Ordering) (k l : List ℕ) (d e : Data) (ms rest : Members) → IsUtf8 k → IsPlain d → MembersArePlain (member l e ms) → MembersArePlain rest →
+    MembersArePlain (match_ordering o (member k d (member l e ms)) (member l d ms) (member l e rest))
 good_by Less k l d e ms rest key value are later = (key, value, are)
 good_by Equal k l d e ms rest key value are later = (are.0, value, are.2)
 good_by Greater k l d e ms rest key value are later = (are.0, are.1, later)
 
-put_good : (k : List ℕ) (d : Data) (ms : Members) → IsUtf8 k → IsGood d → MembersAreGood ms → MembersAreGood (put k d ms)
+put_good : (k : List ℕ) (d : Data) (ms : Members) → IsUtf8 k → IsPlain d → MembersArePlain ms → MembersArePlain (put k d ms)
 put_good k d no_members key value are = (key, value, tt)
 put_good k d (member l e ms) key value are = good_by (cmp k l) k l d e ms (put k d ms) key value are (put_good k d ms key value are.2)
 
@@ -181,7 +164,7 @@ abbrev EachValue : ℕ → List Data → Type 0
 EachValue most [] = Unit {0}
 EachValue most (d ∷ ds) = Value most d × EachValue most ds
 
-items_good : (most : ℕ) (ds : List Data) → EachValue most ds → AreGood (items_of ds)
+items_good : (most : ℕ) (ds : List Data) → EachValue most ds → ArePlain (items_of ds)
 items_good most [] each = tt
 items_good most (d ∷ ds) each = (each.0.good, items_good most ds each.1)
 
@@ -276,9 +259,14 @@ entries_value file formed few_statements few_functions few_branches = (
   ),
 )
 
-pub file_value : (file : FileCoverage) → IsFormed file → AreSmall file.statements → AreSmall file.functions → AreSmall file.branches → file.input_source_map ≡ None → Value 6 (file_data file)
-file_value file formed few_statements few_functions few_branches unmapped =
-    let ms = by_key (file_entries file) in
-    subst (λ m. Value 6 (object (with_source_map m (with_hash file.hash ms)))) (sym unmapped)
-    (an_object 5 (with_hash file.hash ms) (hash_fits file.hash ms formed.hash_text
+map_fits : (map : Option (List ℕ)) (ms : Members) → IfSome map IsPlainMap → Fits 5 ms → Fits 5 (with_source_map map ms)
+map_fits None ms plain fits = fits
+map_fits (Some text) ms plain fits =
+    put_fits 5 (codes "inputSourceMap") (data_of text) ms (IsUtf8-are_ascii (codes "inputSourceMap") refl) (record { good = plain.plain; within = plain.within }) fits
+
+pub file_value : (file : FileCoverage) → IsFormed file → AreSmall file.statements → AreSmall file.functions → AreSmall file.branches → IfSome file.input_source_map IsPlainMap → Value 6 (file_data file)
+file_value file formed few_statements few_functions few_branches plain =
+    let ms = with_hash file.hash (by_key (file_entries file)) in
+    an_object 5 (with_source_map file.input_source_map ms) (map_fits file.input_source_map ms plain
+    (hash_fits file.hash (by_key (file_entries file)) formed.hash_text
     (entries_fit 5 (file_entries file) (entries_value file formed few_statements few_functions few_branches))))

@@ -1,5 +1,5 @@
 -- What is proved: which data a heap holds, and which coverage these tell.
-use Rattle.std.specs.Prelude.{◌≡◌, ◌≤◌, ◌<◌, ◌-◌, ◌^◌, ℕ, List, [], ◌∷◌, Some, None, codes, decimal}
+use Rattle.std.specs.Prelude.{◌≡◌, ◌≤◌, ◌<◌, ◌-◌, ◌^◌, ℕ, List, [], ◌∷◌, Some, IfSome, codes, decimal}
 use Rattle.items.specs.declared.data.Data.{Data as Tree}
 use Rattle.js_terms.specs.declared.construct.ConstructKind.{ConstructKind}
 use Rattle.js_terms.specs.declared.construct.ConstructKind.TheVariants as construct_kind
@@ -17,6 +17,7 @@ use Rattle.cov_object.specs.Json.{file_data}
 use Rattle.cov_object.specs.Numbered.{AreSmall}
 use Rattle.cov_object.specs.private.Formed.{AreFormed}
 use Rattle.cov_object.specs.declared.file.FileCoverage.{FileCoverage}
+use Rattle.cov_expected.specs.Plain.{IsPlainMap}
 use Rattle.cov_expected.specs.Told.{value_of, nesting, IsTellable, json_of, files_members}
 use Rattle.cov_expected.specs.Expected.{in_order, counted_file}
 
@@ -44,15 +45,15 @@ abbrev pub AreApart : List FileCoverage → Type 0
 AreApart [] = Unit {0}
 AreApart (file ∷ files) = IsOther file.path files × AreApart files
 
--- none has a source map
-abbrev pub AreUnmapped : List FileCoverage → Type 0
-AreUnmapped [] = Unit {0}
-AreUnmapped (file ∷ files) = (file.input_source_map ≡ None) × AreUnmapped files
+-- the source map of each, where it has one, is plain
+abbrev pub HavePlainMaps : List FileCoverage → Type 0
+HavePlainMaps [] = Unit {0}
+HavePlainMaps (file ∷ files) = IfSome file.input_source_map IsPlainMap × HavePlainMaps files
 
 -- where the global object's `__coverage__` represents the data of these files, they are the coverage that the heap holds
 abbrev pub TellsFiles : Type 0
 TellsFiles = (h : Heap) (property : Property) (files : List FileCoverage) → own h (number_of place.Global) coverage_name ≡ Some property →
-    Represents h property.value (Members (files_members files)) → AreApart files → AreFormed files → HaveSmallIds files → AreUnmapped files →
+    Represents h property.value (Members (files_members files)) → AreApart files → AreFormed files → HaveSmallIds files → HavePlainMaps files →
     IsCoverage h (in_order files)
 
 -- ---- counts

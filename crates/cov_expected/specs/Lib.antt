@@ -1,3 +1,4 @@
 pub mod Expected
 pub mod Told
+pub mod Plain
 pub mod Laws

@@ -64,3 +64,7 @@ zero_file path hash list = record {
   functions = enumerate_from 0 (zero_functions list);
   branches = enumerate_from 0 (zero_branches list);
 }
+
+-- the coverage of a file that was itself made from other sources keeps the text of its source map, where it has one
+abbrev pub with_map : Option (List ℕ) → FileCoverage → FileCoverage
+with_map text file = record file { input_source_map = text }

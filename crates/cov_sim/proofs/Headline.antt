@@ -1,5 +1,5 @@
 -- The headline: of any sources, from the law of the two runs on programs.
-use Rattle.std.proofs.Common.{◌≡◌, ◌≢◌, ℕ, zero, suc, ◌+◌, Bool, true, false, List, [], ◌∷◌, Some, None, codes, refl, sym, ap, subst, ◌∙◌, arith}
+use Rattle.std.proofs.Common.{◌≡◌, ◌≢◌, ℕ, zero, suc, ◌+◌, Bool, true, false, List, [], ◌∷◌, Some, None, IfSome, codes, refl, sym, ap, subst, ◌∙◌, arith}
 use Rattle.std.specs.Prelude.{slice_get, nat_eq}
 use Rattle.std.specs.List.{ends_with}
 use Rattle.std.specs.Str.{IsUtf8}
@@ -9,7 +9,7 @@ use Rattle.js_reading.specs.Laws.{TextHasOneTree}
 use Rattle.js_scopes.specs.Accepted.{Accepted, AcceptedAgain}
 use Rattle.js_meaning.specs.Program as program
 use Rattle.js_alike.specs.Alike.{EachAlike, AreAlike}
-use Rattle.cov_counted.specs.Accepted.{AreAccepted}
+use Rattle.cov_counted.specs.Accepted.{Content, IsMapText, AreAccepted}
 use Rattle.cov_counted.specs.Accepted as counted
 use Rattle.cov_again.specs.Replaced.{rewritten_tree, replaced_sources, replaced}
 use Rattle.cov_again.specs.Laws.{RunsReplaced}
@@ -19,7 +19,8 @@ use Rattle.cov_sim.specs.Again.{IsReadAgain}
 use Rattle.cov_sim.specs.Instrumented as list
 use Rattle.cov_sim.specs.Instrumented.{instrumented, is_left_out, Instruments, left, made, AreInstrumented}
 use Rattle.cov_sim.specs.declared.instrumented.MappedText.{MappedText}
-use Rattle.cov_sim.specs.Headline.{IsElsewhere, HavePaths, file_of, AreReplaced, no_file, kept, by_tree, AreRead, none, as_it_is, by_text, program_of, bytes_if, bytes_of, DoTheSame, Headline}
+use Rattle.cov_sim.specs.Headline.{IsElsewhere, HavePaths, file_of, AreReplaced, no_file, kept, by_tree, AreRead, none, as_it_is, by_text, program_of, content_if, content_of, HaveTexts, DoTheSame, Headline}
+use Rattle.cov_sim.proofs.InputMaps.{input_is}
 
 -- ---- the texts can be read again
 
@@ -91,10 +92,17 @@ apart_at (first ∷ sources) h (suc i) zero one other differ a b same =
     elsewhere_at sources first.path h.0.2 i one a (ap (λ (s : Source). s.path) (one_there b) ∙ sym same)
 apart_at (first ∷ sources) h (suc i) (suc j) one other differ a b same = apart_at sources h.1 i j one other (λ e. differ (ap (λ n. suc n) e)) a b same
 
+-- their source maps
+map_at : (sources : List Source) → HaveTexts sources → (j : ℕ) → IfSome (content_of sources j).map IsMapText
+map_at [] h j = tt
+map_at (first ∷ sources) h zero = input_is first.input h.0
+map_at (first ∷ sources) h (suc j) = map_at sources h.1 j
+
 module _ {sources : List Source} {files again : List program.Source} (rest : AreReplaced sources files again) where
-  all_accepted : AreAccepted (bytes_of sources) (program_of files)
-  all_accepted = record {
-    files = λ j file e. let a = source_at rest j file e in subst (λ bytes. Accepted bytes file.tree) (ap bytes_if (sym a.at)) a.accepted;
+  all_accepted : HaveTexts sources → AreAccepted (content_of sources) (program_of files)
+  all_accepted texts = record {
+    files = λ j file e. let a = source_at rest j file e in subst (λ (content : Content). Accepted content.bytes file.tree) (ap content_if (sym a.at)) a.accepted;
+    maps = map_at sources texts;
     prelude = refl;
   }
 
@@ -113,23 +121,23 @@ module _ {sources : List Source} {files again : List program.Source} (rest : Are
 
 -- what stands in the files' place is alike the program in which each counted file stands rewritten
 all_alike : {sources : List Source} {files again : List program.Source} → AreReplaced sources files again →
-    (bytes : ℕ → List ℕ) (i : ℕ) → ((n j : ℕ) → n ≡ i + j → bytes n ≡ bytes_of sources j) → EachAlike again (replaced_sources bytes i files)
-all_alike no_file bytes i h = tt
-all_alike (kept tree is out rest) bytes i h =
-    (record { path = refl; tree = refl }, all_alike rest bytes (suc i) (λ n j e. h n (suc j) (omega (arith, e))))
-all_alike (by_tree {source = source} tree other is in_ same rest) bytes i h = (
-  record { path = refl; tree = same ∙ ap (λ bs. bare_file (rewritten_tree bs (file_of source tree true))) (sym (h i 0 (omega arith))) },
-  all_alike rest bytes (suc i) (λ n j e. h n (suc j) (omega (arith, e))),
+    (content : ℕ → Content) (i : ℕ) → ((n j : ℕ) → n ≡ i + j → content n ≡ content_of sources j) → EachAlike again (replaced_sources content i files)
+all_alike no_file content i h = tt
+all_alike (kept tree is out rest) content i h =
+    (record { path = refl; tree = refl }, all_alike rest content (suc i) (λ n j e. h n (suc j) (omega (arith, e))))
+all_alike (by_tree {source = source} tree other is in_ same rest) content i h = (
+  record { path = refl; tree = same ∙ ap (λ (of : Content). bare_file (rewritten_tree of (file_of source tree true))) (sym (h i 0 (omega arith))) },
+  all_alike rest content (suc i) (λ n j e. h n (suc j) (omega (arith, e))),
 )
 
 same_place : (n j : ℕ) → n ≡ 0 + j → n ≡ j
 same_place n j e = omega (arith, e)
 
-do_the_same : RunsReplaced → (sources : List Source) → HavePaths sources → (files again : List program.Source) → AreReplaced sources files again → DoTheSame sources files again
-do_the_same runs sources paths files again rest entry n room w e =
-    let alike : AreAlike (program_of again) (replaced (bytes_of sources) (program_of files)) =
-    record { files = all_alike rest (bytes_of sources) 0 (λ n j e. ap (bytes_of sources) (same_place n j e)); prelude = refl } in
-    let x = runs (bytes_of sources) (program_of files) (all_accepted rest) (all_placed rest paths) (program_of again) alike entry n room w e in
+do_the_same : RunsReplaced → (sources : List Source) → HavePaths sources → HaveTexts sources → (files again : List program.Source) → AreReplaced sources files again → DoTheSame sources files again
+do_the_same runs sources paths texts files again rest entry n room w e =
+    let alike : AreAlike (program_of again) (replaced (content_of sources) (program_of files)) =
+    record { files = all_alike rest (content_of sources) 0 (λ n j e. ap (content_of sources) (same_place n j e)); prelude = refl } in
+    let x = runs (content_of sources) (program_of files) (all_accepted rest texts) (all_placed rest paths) (program_of again) alike entry n room w e in
     (x.0, x.1, record { end = x.2.end; output = x.2.output; coverage = x.2.coverage })
 
 -- ---- the texts, read again
@@ -146,7 +154,7 @@ later_texts (one ∷ texts) = texts
 made_kept : (source : Source) (tree : File) (text : MappedText) → Instruments source tree (Some text) → is_left_out source tree ≡ false
 made_kept source tree _ (made in_ again) = in_
 
-made_again : (source : Source) (tree : File) (text : MappedText) → Instruments source tree (Some text) → IsReadAgain text.text (instrumented source.path source.bytes tree)
+made_again : (source : Source) (tree : File) (text : MappedText) → Instruments source tree (Some text) → IsReadAgain text.text (instrumented source.path source.bytes source.input tree)
 made_again source tree _ (made in_ again) = again
 
 true_false : {b : Bool} → b ≡ true → b ≡ false → ⊥
@@ -161,12 +169,12 @@ module _ (one_tree : TextHasOneTree) where
   in_and_out source a b out in_ = true_false out (ap (is_left_out source) (same_tree a b) ∙ in_)
 
   -- a text has one tree, so what is read of it is the instrumented tree but for places, comments and parentheses
-  text_same : (source : Source) (one tree other : File) (text : List ℕ) → Accepted source.bytes one → Accepted source.bytes tree → IsReadAgain text (instrumented source.path source.bytes one) →
-      AcceptedAgain text other → bare_file other ≡ bare_file (instrumented source.path source.bytes tree)
+  text_same : (source : Source) (one tree other : File) (text : List ℕ) → Accepted source.bytes one → Accepted source.bytes tree → IsReadAgain text (instrumented source.path source.bytes source.input one) →
+      AcceptedAgain text other → bare_file other ≡ bare_file (instrumented source.path source.bytes source.input tree)
   text_same source one tree other text a b again read =
       ap bare_file (one_tree text other again.tree read.reads again.accepted.reads)
       ∙ again.same
-      ∙ ap (λ t. bare_file (instrumented source.path source.bytes t)) (same_tree a b)
+      ∙ ap (λ t. bare_file (instrumented source.path source.bytes source.input t)) (same_tree a b)
 
   trees_of : {sources : List Source} {texts others : List Instrumented} {files again : List program.Source} → AreRead sources texts files again → AreInstrumented sources others → texts ≡ others →
       AreReplaced sources files again
@@ -178,10 +186,10 @@ module _ (one_tree : TextHasOneTree) where
       by_tree tree other is in_ (text_same source one tree other same_text.text a is (made_again source one same_text is_there) (subst (λ t. AcceptedAgain t other) (ap first_text e) again)) (trees_of read are (ap later_texts e))
 
   pub headline : RunsReplaced → Headline
-  headline runs sources texts paths are =
+  headline runs sources texts paths have are =
       let r = readable are in
       record {
-        trees = do_the_same runs sources paths;
+        trees = do_the_same runs sources paths have;
         read = (r.files, r.again, r.read);
-        texts_do = λ files again read. do_the_same runs sources paths files again (trees_of read are refl);
+        texts_do = λ files again read. do_the_same runs sources paths have files again (trees_of read are refl);
       }

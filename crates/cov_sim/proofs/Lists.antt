@@ -1,9 +1,11 @@
 -- Lists of sources and of their texts, with one source more.
-use Rattle.std.proofs.Common.{◌≡◌, ℕ, suc, ◌+◌, ◌<◌, List, [], ◌∷◌, ◌++◌, Option, length, take, drop, get_or, Some, None, sym, ap, ◌∙◌, take-append-drop, drop-cons, arith}
+use Rattle.std.proofs.Common.{◌≡◌, ℕ, suc, ◌+◌, ◌<◌, List, [], ◌∷◌, ◌++◌, Option, length, take, drop, get_or, Some, None, IfSome, sym, ap, ◌∙◌, take-append-drop, drop-cons, arith}
 use Rattle.std.proofs.lemmas.List.{take_more}
 use Rattle.js_tree.specs.Plain.{File}
+use Rattle.source_map.specs.Kept.{HasTexts}
 use Rattle.js_scopes.specs.Accepted.{Accepted}
 use Rattle.cov_sim.specs.Instrumented.{instrumented_as, with_text, Instruments, AreInstrumented, none, passed_over, counted}
+use Rattle.cov_sim.specs.Headline.{HaveTexts}
 use Rattle.cov_sim.specs.Refused.{AreAccepted}
 use Rattle.cov_sources.specs.declared.source.Source.{Source}
 use Rattle.cov_sim.specs.declared.instrumented.Instrumented.{Instrumented}
@@ -45,3 +47,8 @@ next i = omega arith
 pub split_at : (sources : List Source) (i : ℕ) (source : Source) → i < length sources → source ≡ get_or sources i source → sources ≡ take i sources ++ source ∷ drop (i + 1) sources
 split_at sources i source below is =
     sym (take-append-drop i sources) ∙ ap (λ rest. take i sources ++ rest) (drop-cons sources i source below ∙ ap (λ s. s ∷ drop (suc i) sources) (sym is) ∙ ap (λ n. source ∷ drop n sources) (next i))
+
+-- one source more whose map's texts are UTF-8
+pub texts_push : (sources : List Source) (source : Source) → HaveTexts sources → IfSome source.input HasTexts → HaveTexts (sources ++ source ∷ [])
+texts_push [] source have texts = (texts, tt)
+texts_push (one ∷ others) source have texts = (have.0, texts_push others source have.1 texts)

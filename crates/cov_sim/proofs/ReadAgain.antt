@@ -40,13 +40,13 @@ never_refused refusal.TooDeep bytes at tree is other reads low =
 never_refused refusal.Memory bytes at tree is other reads low = other refl
 
 -- so it runs in place of the source
-pub runs_again : {T Want : Type 0} (tree_of : T → File) (source : Source) (tree : File) (bytes : List ℕ) → bytes ≡ layout (instrumented source.path source.bytes tree) → is_left_out source tree ≡ false →
-    IsReadAgain bytes (instrumented source.path source.bytes tree) → (result : Result T Want) → IfOk result (λ other. AcceptedAgain bytes (tree_of other)) →
+pub runs_again : {T Want : Type 0} (tree_of : T → File) (source : Source) (tree : File) (bytes : List ℕ) → bytes ≡ layout (instrumented source.path source.bytes source.input tree) → is_left_out source tree ≡ false →
+    IsReadAgain bytes (instrumented source.path source.bytes source.input tree) → (result : Result T Want) → IfOk result (λ other. AcceptedAgain bytes (tree_of other)) →
     IfOk result (λ other. HasOnly bytes (tree_of other)) → IfOk result (λ other. RunsAs source tree (tree_of other))
 runs_again tree_of source tree bytes same kept is (Ok other) accepted only = again kept
     (record {
       accepted = subst (λ b. AcceptedAgain b (tree_of other)) same accepted;
       only = subst (λ b. HasOnly b (tree_of other)) same only;
-      same = bare_alike bytes (instrumented source.path source.bytes tree) is (tree_of other) only;
+      same = bare_alike bytes (instrumented source.path source.bytes source.input tree) is (tree_of other) only;
     })
 runs_again tree_of source tree bytes same kept is (Err want) accepted only = tt

@@ -1,5 +1,6 @@
 -- What the preamble of an accepted source holds is spelt, so that the text of the source, instrumented, is read again.
-use Rattle.std.proofs.Common.{ℕ, ◌+◌, ◌≤◌, List, [], ◌∷◌, false, codes, refl, arith}
+use Rattle.std.proofs.Common.{ℕ, ◌+◌, ◌≤◌, List, [], ◌∷◌, Option, IfSome, false, codes, refl, arith}
+use Rattle.std.specs.Prelude.{option_map}
 use Rattle.std.specs.List.{enumerate_from}
 use Rattle.std.specs.Str.{IsUtf8}
 use Rattle.serde_json.specs.Data.{depth}
@@ -16,8 +17,11 @@ use Rattle.js_scopes.specs.Accepted.{Accepted}
 use Rattle.js_scopes.specs.Mentions.{mentions_file}
 use Rattle.js_scopes.specs.Names.{names_of}
 use Rattle.cov_hash.specs.Hash.{hash_text}
-use Rattle.cov_maps.specs.Zero.{spelling_of, zero_functions, zero_branches, zero_file}
-use Rattle.cov_preamble.specs.Texts.{HasTexts, HaveNames, HaveKinds}
+use Rattle.cov_maps.specs.Zero.{spelling_of, zero_functions, zero_branches, zero_file, with_map}
+use Rattle.source_map.specs.declared.place.Parts.{Parts}
+use Rattle.source_map.specs.Kept as kept
+use Rattle.source_map.specs.Write.{map_text}
+use Rattle.cov_preamble.specs.Texts.{IsSpeltMap, HasTexts, HaveNames, HaveKinds}
 use Rattle.cov_preamble.proofs.FileSpelt.{file_value}
 use Rattle.cov_preamble.proofs.Ours.{can_refer, is_new}
 use Rattle.cov_rewritten.specs.Laws.{ReadsWell}
@@ -26,6 +30,7 @@ use Rattle.cov_sim.specs.Instrumented.{own_name, zero_data, instrumented}
 use Rattle.cov_sim.specs.Laws.{AreNamed, SpellsSources, ReadsSources}
 use Rattle.cov_sim.specs.Laws as all
 use Rattle.cov_sim.proofs.Hexadecimal.{hash_utf8}
+use Rattle.cov_sim.proofs.InputMaps.{input_spelt}
 use Rattle.cov_sim.proofs.Named.{names_functions}
 
 have_names : (n : ℕ) {list : List Construct} → AreNamed list → HaveNames (enumerate_from n (zero_functions list))
@@ -48,28 +53,31 @@ have_kinds n (construct.Statement loc ∷ list) = have_kinds n list
 have_kinds n (construct.Function name declared body ∷ list) = have_kinds n list
 have_kinds n (construct.Branch kind loc paths ∷ list) = (kind_utf8 kind, have_kinds (n + 1) list)
 
-has_texts : (path hash : List ℕ) (list : List Construct) → IsUtf8 path → IsUtf8 hash → AreNamed list → HasTexts (zero_file path hash list)
-has_texts path hash list p q named = record { path = p; hash = q; source_map = tt; names = have_names 0 named; kinds = have_kinds 0 list }
+has_texts : (map : Option (List ℕ)) (path hash : List ℕ) (list : List Construct) → IfSome map IsSpeltMap → IsUtf8 path → IsUtf8 hash → AreNamed list → HasTexts (with_map map (zero_file path hash list))
+has_texts map path hash list spelt p q named = record { path = p; hash = q; source_map = spelt; names = have_names 0 named; kinds = have_kinds 0 list }
 
 named : (bytes : List ℕ) (tree : File) → Accepted bytes tree → AreNamed (constructs_file tree)
 named bytes tree source = names_functions tree (accepted_prints has_tokens false bytes tree source.utf8 source.reads source.unbroken)
 
 pub spells_sources : SpellsSources
-spells_sources path bytes tree source utf8 =
-    let value = file_value (zero_file path (hash_text bytes) (constructs_file tree)) (has_texts path (hash_text bytes) (constructs_file tree) utf8 (hash_utf8 bytes) (named bytes tree source)) in (value.spelt, value.within)
+spells_sources path bytes input tree source utf8 has =
+    let map = option_map map_text input in
+    let texts = has_texts map path (hash_text bytes) (constructs_file tree) (input_spelt input has) utf8 (hash_utf8 bytes) (named bytes tree source) in
+    let value = file_value (with_map map (zero_file path (hash_text bytes) (constructs_file tree))) texts in (value.spelt, value.within)
 
 low : (d : ℕ) → d ≤ 6 → d ≤ 11
 low d h = omega (arith, h)
 
-reads_well : (path bytes : List ℕ) (tree : File) → Accepted bytes tree → IsUtf8 path → ReadsWell (layout (instrumented path bytes tree)) (instrumented path bytes tree)
-reads_well path bytes tree source utf8 =
-    let value = spells_sources path bytes tree source utf8 in
-    rewrites_well (own_name path tree) path (hash_text bytes) (zero_data path bytes tree) bytes tree source (can_refer path (names_of (mentions_file tree))) (is_new path tree) utf8 (hash_utf8 bytes) value.0
-    (low (depth (zero_data path bytes tree)) value.1)
+reads_well : (path bytes : List ℕ) (input : Option Parts) (tree : File) → Accepted bytes tree → IsUtf8 path → IfSome input kept.HasTexts →
+    ReadsWell (layout (instrumented path bytes input tree)) (instrumented path bytes input tree)
+reads_well path bytes input tree source utf8 has =
+    let value = spells_sources path bytes input tree source utf8 has in
+    rewrites_well (own_name path tree) path (hash_text bytes) (zero_data path bytes input tree) bytes tree source (can_refer path (names_of (mentions_file tree))) (is_new path tree) utf8 (hash_utf8 bytes) value.0
+    (low (depth (zero_data path bytes input tree)) value.1)
 
 pub reads_sources : ReadsSources
-reads_sources path bytes tree source utf8 within =
-    let well = reads_well path bytes tree source utf8 in record {
+reads_sources path bytes input tree source utf8 has within =
+    let well = reads_well path bytes input tree source utf8 has in record {
       tree = well.tree;
       accepted = record { within = within; utf8 = well.utf8; reads = well.reads; low = well.low; unbroken = well.unbroken };
       same = well.same;

@@ -11,9 +11,9 @@ use Rattle.cov_sim.specs.Instrumented.{instrumented, is_left_out}
 -- the tree that the source's text, instrumented, is read again to: the only one that it has, and the instrumented one but for places,
 -- comments and parentheses
 pub record ReadsAgain (source : Source) (tree other : File) : Type 0 where
-  pub accepted : AcceptedAgain (layout (instrumented source.path source.bytes tree)) other
-  pub only : HasOnly (layout (instrumented source.path source.bytes tree)) other
-  pub same : bare_file other ≡ bare_file (instrumented source.path source.bytes tree)
+  pub accepted : AcceptedAgain (layout (instrumented source.path source.bytes source.input tree)) other
+  pub only : HasOnly (layout (instrumented source.path source.bytes source.input tree)) other
+  pub same : bare_file other ≡ bare_file (instrumented source.path source.bytes source.input tree)
 
 -- in place of a source of this tree: the tree itself where the source isn't counted or a comment takes it out
 pub data RunsAs (source : Source) (tree : File) : File → Type 0 where

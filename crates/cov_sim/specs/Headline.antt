@@ -1,6 +1,6 @@
 -- The headline. For every set of accepted files and every number N, the instrumented texts, read again and run for N turns, print, end or
 -- go on exactly as the sources do in N steps, and every counter then equals the entries of its construct.
-use Rattle.std.specs.Prelude.{◌≡◌, ℕ, ◌-◌, ◌^◌, ◌≤◌, Bool, true, false, List, [], ◌∷◌, Option, Some, None, slice_get, nat_eq, codes}
+use Rattle.std.specs.Prelude.{◌≡◌, ℕ, ◌-◌, ◌^◌, ◌≤◌, Bool, true, false, List, [], ◌∷◌, Option, Some, None, IfSome, option_map, slice_get, nat_eq, codes}
 use Rattle.std.specs.List.{ends_with}
 use Rattle.std.specs.Str.{IsUtf8}
 use Rattle.js_tree.specs.Plain.{File}
@@ -12,7 +12,9 @@ use Rattle.js_prelude.specs.Prelude.{prelude_tree}
 use Rattle.js_coverage.specs.Coverage.{IsCoverage}
 use Rattle.cov_object.specs.declared.file.FileCoverage.{FileCoverage}
 use Rattle.cov_expected.specs.Expected.{expected}
-use Rattle.cov_counted.specs.Accepted.{zero_at}
+use Rattle.cov_counted.specs.Accepted.{Content, zero_at}
+use Rattle.source_map.specs.Kept.{HasTexts}
+use Rattle.source_map.specs.Write.{map_text}
 use Rattle.cov_sources.specs.declared.source.Source.{Source}
 use Rattle.cov_sim.specs.declared.instrumented.Instrumented.{Instrumented}
 use Rattle.cov_sim.specs.Instrumented.{instrumented, is_left_out, AreInstrumented}
@@ -27,6 +29,11 @@ abbrev pub HavePaths : List Source → Type 0
 HavePaths [] = Unit {0}
 HavePaths (source ∷ sources) = (IsUtf8 source.path × (ends_with nat_eq source.path (codes ".js") ≡ true) × IsElsewhere source.path sources) × HavePaths sources
 
+-- the texts in their source maps are UTF-8, as the maps' type says
+abbrev pub HaveTexts : List Source → Type 0
+HaveTexts [] = Unit {0}
+HaveTexts (source ∷ sources) = IfSome source.input HasTexts × HaveTexts sources
+
 -- ---- the files of the sources, and what stands in their place
 
 abbrev pub file_of : Source → File → Bool → program.Source
@@ -40,7 +47,7 @@ pub data AreReplaced : List Source → (files again : List program.Source) → T
       Accepted source.bytes tree → is_left_out source tree ≡ true →
       AreReplaced sources files again → AreReplaced (source ∷ sources) (file_of source tree false ∷ files) (file_of source tree false ∷ again)
   by_tree : {source : Source} {sources : List Source} {files again : List program.Source} (tree other : File) →
-      Accepted source.bytes tree → is_left_out source tree ≡ false → bare_file other ≡ bare_file (instrumented source.path source.bytes tree) →
+      Accepted source.bytes tree → is_left_out source tree ≡ false → bare_file other ≡ bare_file (instrumented source.path source.bytes source.input tree) →
       AreReplaced sources files again → AreReplaced (source ∷ sources) (file_of source tree true ∷ files) (file_of source other false ∷ again)
 
 -- the same with the tree of each counted file's text, read again
@@ -57,17 +64,18 @@ pub data AreRead : List Source → List Instrumented → (files again : List pro
 abbrev pub program_of : List program.Source → program.Sources
 program_of files = record { files = files; prelude = prelude_tree }
 
--- ---- the coverage that they begin with: of each file zero for each construct, with its path and the hash of its bytes
+-- ---- the coverage that they begin with: of each file zero for each construct, with its path, the hash of its bytes and the text of its
+-- source map, where it has one
 
-abbrev pub bytes_if : Option Source → List ℕ
-bytes_if None = []
-bytes_if (Some source) = source.bytes
+abbrev pub content_if : Option Source → Content
+content_if None = record { bytes = []; map = None }
+content_if (Some source) = record { bytes = source.bytes; map = option_map map_text source.input }
 
-abbrev pub bytes_of : List Source → ℕ → List ℕ
-bytes_of sources file = bytes_if (slice_get sources file)
+abbrev pub content_of : List Source → ℕ → Content
+content_of sources file = content_if (slice_get sources file)
 
 abbrev pub zeros : List Source → List program.Source → ℕ → FileCoverage
-zeros sources files = zero_at (bytes_of sources) (program_of files)
+zeros sources files = zero_at (content_of sources) (program_of files)
 
 -- ---- the two runs are one
 
@@ -90,4 +98,4 @@ pub record Simulates (sources : List Source) (texts : List Instrumented) : Type 
   pub texts_do : (files again : List program.Source) → AreRead sources texts files again → DoTheSame sources files again
 
 abbrev pub Headline : Type 0
-Headline = (sources : List Source) (texts : List Instrumented) → HavePaths sources → AreInstrumented sources texts → Simulates sources texts
+Headline = (sources : List Source) (texts : List Instrumented) → HavePaths sources → HaveTexts sources → AreInstrumented sources texts → Simulates sources texts

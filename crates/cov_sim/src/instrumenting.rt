@@ -1,12 +1,13 @@
-ghost use Rattle.std.specs.Prelude.{◌≡◌, ◌≢◌, ◌≤◌, length, IfOk, IfErr, OnOk};
+ghost use Rattle.std.specs.Prelude.{◌≡◌, ◌≢◌, ◌≤◌, length, IfOk, IfErr, IfSome, OnOk};
 ghost use Rattle.js_tree.specs.Plain as plain;
 ghost use Rattle.js_tree.specs.Tree.{plain_file};
 ghost use Rattle.js_text.specs.Limits.{again_limits};
 ghost use Rattle.js_layout.specs.Layout.{layout, marks};
 ghost use Rattle.js_scopes.specs.Accepted.{Accepted};
-ghost use Rattle.cov_sim.specs.Instrumented.{instrumented, is_left_out, mapped_text, with_text, Instruments, AreInstrumented};
+ghost use Rattle.cov_sim.specs.Instrumented.{instrumented, is_left_out, after_map as spec_after_map, mapped_text, with_text, Instruments, AreInstrumented};
+ghost use Rattle.source_map.specs.Kept.{HasTexts};
 ghost use Rattle.cov_sim.specs.Again.{IsReadAgain};
-ghost use Rattle.cov_sim.specs.Headline.{HavePaths, Simulates};
+ghost use Rattle.cov_sim.specs.Headline.{HavePaths, HaveTexts, Simulates};
 ghost use Rattle.cov_sources.specs.Refused.{IsRefused};
 ghost use Rattle.cov_sim.specs.Refused.{RefusesFirst};
 ghost use Rattle.cov_sim.specs.declared.fault.InstrumentFault.TheVariants.{Memory as OutOfMemory};
@@ -24,7 +25,7 @@ use js_scopes::Checked;
 use js_text::Limits;
 use js_tree::File;
 use printed_map::map_of;
-use source_map::write;
+use source_map::{SourceMap, compose, look_at, write};
 use std::alloc::{AllocError, Global};
 
 /// The instrumented texts of the sources that are counted and that no comment takes out, in their
@@ -41,7 +42,9 @@ pub fn instrument_all(
     ensures refused { IfErr result (λ fault. fault ≢ OutOfMemory → RefusesFirst sources.now.items fault) }
 {
     simulating();
-    all_of(alloc, sources.as_slice())
+    let slice = sources.as_slice();
+    look_at_inputs(slice);
+    all_of(alloc, slice)
 }
 
 // The same of a slice.
@@ -124,23 +127,52 @@ pub fn text_for(alloc: Global, source: &Source, file: Checked) -> Result<Option<
 // The text of a source that is counted, with its map.
 fn mapped_text_of(alloc: Global, source: &Source, file: Checked) -> Result<MappedText, Memory>
     requires { Accepted source.now.bytes (plain_file file) }
-    ensures made { IfOk result (λ made. made ≡ mapped_text source.now.path source.now.bytes (plain_file file)) }
-    ensures again { IfOk result (λ made. IsReadAgain made.text (instrumented source.now.path source.now.bytes (plain_file file))) }
+    ensures made { IfOk result (λ made. made ≡ mapped_text source.now.path source.now.bytes source.now.input (plain_file file)) }
+    ensures again { IfOk result (λ made. IsReadAgain made.text (instrumented source.now.path source.now.bytes source.now.input (plain_file file))) }
 {
     let printed = printed_of(alloc, source, file)?;
     let map = map_of(alloc, source.path.as_str(), printed.marks.as_slice())?;
-    let bytes = write(alloc, &map)?;
+    let back = after_map(alloc, source, map)?;
+    let bytes = write(alloc, &back)?;
     Ok(MappedText {
         text: printed.bytes,
         map: Items::from_vec(bytes),
     })
 }
 
+// A map and then the source's own, where it has one.
+fn after_map(alloc: Global, source: &Source, map: SourceMap) -> Result<SourceMap, Memory>
+    ensures { IfOk result (λ back. back ≡ spec_after_map source.now.input map) }
+{
+    match &source.input {
+        None => Ok(map),
+        Some(input) => compose(alloc, &map, input),
+    }
+}
+
+/// Does nothing but look at the texts of a source's map, where it has one: they are UTF-8.
+pub fn look_at_input(source: &Source)
+    ensures { IfSome source.now.input HasTexts }
+{
+    if let Some(input) = &source.input {
+        look_at(input);
+    }
+}
+
+// The same of each source.
+fn look_at_inputs(sources: &[Source])
+    ensures { HaveTexts sources.now }
+{
+    for source in sources {
+        look_at_input(source);
+    }
+}
+
 // The text alone.
 pub(crate) fn text_of(alloc: Global, source: &Source, file: Checked) -> Result<Text, Memory>
     requires { Accepted source.now.bytes (plain_file file) }
-    ensures text { IfOk result (λ text. text ≡ layout (instrumented source.now.path source.now.bytes (plain_file file))) }
-    ensures again { IfOk result (λ text. IsReadAgain text (instrumented source.now.path source.now.bytes (plain_file file))) }
+    ensures text { IfOk result (λ text. text ≡ layout (instrumented source.now.path source.now.bytes source.now.input (plain_file file))) }
+    ensures again { IfOk result (λ text. IsReadAgain text (instrumented source.now.path source.now.bytes source.now.input (plain_file file))) }
 {
     let printed = printed_of(alloc, source, file)?;
     Ok(printed.bytes)
@@ -149,12 +181,19 @@ pub(crate) fn text_of(alloc: Global, source: &Source, file: Checked) -> Result<T
 // What a source that is counted is printed as, once it is instrumented.
 fn printed_of(alloc: Global, source: &Source, file: Checked) -> Result<Printed, Memory>
     requires { Accepted source.now.bytes (plain_file file) }
-    ensures text { IfOk result (λ printed. printed.bytes ≡ layout (instrumented source.now.path source.now.bytes (plain_file file))) }
-    ensures marks { IfOk result (λ printed. printed.marks ≡ marks (instrumented source.now.path source.now.bytes (plain_file file))) }
-    ensures again { IfOk result (λ printed. IsReadAgain printed.bytes (instrumented source.now.path source.now.bytes (plain_file file))) }
+    ensures text { IfOk result (λ printed. printed.bytes ≡ layout (instrumented source.now.path source.now.bytes source.now.input (plain_file file))) }
+    ensures marks { IfOk result (λ printed. printed.marks ≡ marks (instrumented source.now.path source.now.bytes source.now.input (plain_file file))) }
+    ensures again { IfOk result (λ printed. IsReadAgain printed.bytes (instrumented source.now.path source.now.bytes source.now.input (plain_file file))) }
 {
+    look_at_input(source);
     let hash = hash_of(alloc, source.bytes.as_slice())?;
-    let tree = rewrite(alloc, source.path.as_str(), hash.as_str(), file)?;
+    let tree = rewrite(
+        alloc,
+        source.path.as_str(),
+        hash.as_str(),
+        file,
+        source.input.as_ref(),
+    )?;
     let printed = short(print(alloc, &tree)?)?;
     Ok(printed)
 }

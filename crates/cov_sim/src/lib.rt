@@ -11,5 +11,5 @@ pub use counting::counting_tree;
 pub use cov_sources::{Source, Sources, Why, accept};
 pub use fault::InstrumentFault;
 pub use instrumented::{Instrumented, MappedText};
-pub use instrumenting::{instrument_all, text_for};
+pub use instrumenting::{instrument_all, look_at_input, text_for};
 pub use laws::{reading, simulating};

@@ -8,5 +8,5 @@ pub returns-clause-units : goal.returns-clause-units
 returns-clause-units c = spells_units
 
 pub returns-clause-files : goal.returns-clause-files
-returns-clause-files c file formed statements functions branches unmapped =
-    literal_of spells_units c.numerals.ensures.spelled (file_data file) (file_value file formed statements functions branches unmapped).good
+returns-clause-files c file formed statements functions branches mapped =
+    literal_of spells_units c.numerals.ensures.spelled (file_data file) (file_value file formed statements functions branches mapped).good

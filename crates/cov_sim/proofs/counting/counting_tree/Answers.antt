@@ -11,7 +11,7 @@ returns-then-is_left c =
     itself out
 
 pub read_again-requires : goal.read_again-requires
-read_again-requires c = (instrumented c.args.source.now.path c.args.source.now.bytes (plain_file c.args.tree), c.in_ok-text.ensures.again)
+read_again-requires c = (instrumented c.args.source.now.path c.args.source.now.bytes c.args.source.now.input (plain_file c.args.tree), c.in_ok-text.ensures.again)
 
 pub returns : goal.returns
 returns c =

@@ -15,5 +15,5 @@ returns c =
     let source = c.args.source.now in
     let tree = plain_file c.args.file in
     let kept : is_left_out source tree ≡ false = search rules in
-    let again = subst (λ (m : MappedText). IsReadAgain m.text (instrumented source.path source.bytes tree)) c.in_ok-made.ensures.made c.in_ok-made.ensures.again in
+    let again = subst (λ (m : MappedText). IsReadAgain m.text (instrumented source.path source.bytes source.input tree)) c.in_ok-made.ensures.made c.in_ok-made.ensures.again in
     subst (λ made. Instruments source tree (Some made)) (sym c.in_ok-made.ensures.made) (made kept again)
