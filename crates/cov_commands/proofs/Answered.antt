@@ -24,14 +24,15 @@ use Rattle.cov_run.specs.Exec.{EndsAs, Runs}
 use Rattle.cov_run.specs.Laws as L
 use Rattle.cov_run.specs.Laws.{Agree}
 use Rattle.cov_run.specs.Loaded as loaded
-use Rattle.cov_run.specs.Loaded.{IsNoSource, IsSource, IsUnread, Loaded}
+use Rattle.source_map.specs.declared.place.Parts.{Parts}
+use Rattle.cov_run.specs.Loaded.{HasInput, IsNoSource, IsSource, IsUnloaded, IsUnread, Loaded}
 use Rattle.cov_run.specs.Session.{Counts, IsCounting, IsFault, Leaves}
 use Rattle.cov_sim.specs.Refused.{IsFirstRefused}
 use Rattle.cov_run.specs.declared.fault.LoadFault.{LoadFault}
 use Rattle.cov_run.specs.declared.fault.LoadFault.TheVariants as fault
 use Rattle.cov_run.specs.declared.fault.SessionFault.{SessionFault}
 use Rattle.cov_run.specs.declared.fault.SessionFault.TheVariants as session
-use Rattle.cov_run.proofs.Outcomes.{long_none, long_source, none_source, one_outcome, refuses, same_bytes, same_tree, something}
+use Rattle.cov_run.proofs.Outcomes.{long_none, long_source, neither, none_source, one_outcome, refuses, same_bytes, same_tree, same_why, something}
 use Rattle.cov_run.proofs.OneSession.{one_coverage, one_session}
 use Rattle.cov_run.proofs.Sources.{one_run}
 use Rattle.cov_commands.specs.Demo.{demo_held, demo_source, demo_summary, demo_turns}
@@ -166,6 +167,7 @@ fault_status file told (Exec turns) (fault.Refused path why) (unloaded loads) = 
 fault_status file told (Run turns out exclude) (fault.Refused path why) (uncounted loads) = let bad = refuses told file exclude path why loads in no_source_status told path bad.0 why bad.1
 fault_status file told (Demo seed count) (fault.Refused path why) (undemonstrated is) =
     let bad = unread_refused (Some (demo_held seed count)) file path why (fault.Refused path why) refl is in no_source_status (Some (demo_held seed count)) path bad.0 why bad.1
+fault_status file told task (fault.BadMap path why) comes = refl
 fault_status file told task (fault.TooLong path) comes = refl
 fault_status file told task fault.TooManyFiles comes = refl
 fault_status file told task (fault.ReadFault path) comes = refl
@@ -180,6 +182,7 @@ Same one other = (one ≡ other) ⊎ GivesWay one ⊎ GivesWay other
 both_faults : {one other : LoadFault} → Agree (Err one) (Err other) → Same (status_of_fault one) (status_of_fault other)
 both_faults L.no_file = inl refl
 both_faults L.refused = inl refl
+both_faults L.bad_map = inl refl
 both_faults L.too_long = inl refl
 both_faults L.too_many = inl refl
 both_faults L.one_failed = inr (inl (inl refl))
@@ -227,6 +230,43 @@ module _ (held : Held) (file : List ℕ) where
   not_both good (loaded.refused bad) = absurd (none_source held file bad good)
   not_both good loaded.failed = inl refl
   not_both good loaded.wanting = inr (inr refl)
+
+module _ (held : Held) (file : List ℕ) where
+  pub both_unloaded : {one other : LoadFault} → IsUnloaded (Some held) file one → IsUnloaded (Some held) file other → Same (status_of_fault one) (status_of_fault other)
+  both_unloaded (loaded.unread is) (loaded.unread also) = both_unread held file is also
+  both_unloaded (loaded.unread is) (loaded.map_too_long good faulty) = inr (inl (not_both held file good is))
+  both_unloaded (loaded.unread is) (loaded.bad_map good faulty differs) = inr (inl (not_both held file good is))
+  both_unloaded (loaded.unread is) (loaded.map_failed good) = inr (inr (inl refl))
+  both_unloaded (loaded.unread is) loaded.map_wanting = inr (inr (inr (inr refl)))
+  both_unloaded (loaded.map_too_long good faulty) (loaded.unread is) = inr (inr (not_both held file good is))
+  both_unloaded (loaded.map_too_long good faulty) (loaded.map_too_long also broken) = inl refl
+  both_unloaded (loaded.map_too_long good faulty) (loaded.bad_map also broken differs) = absurd (differs (same_why held file broken faulty))
+  both_unloaded (loaded.map_too_long good faulty) (loaded.map_failed also) = inr (inr (inl refl))
+  both_unloaded (loaded.map_too_long good faulty) loaded.map_wanting = inr (inr (inr (inr refl)))
+  both_unloaded (loaded.bad_map good faulty differs) (loaded.unread is) = inr (inr (not_both held file good is))
+  both_unloaded (loaded.bad_map good faulty differs) (loaded.map_too_long also broken) = absurd (differs (same_why held file faulty broken))
+  both_unloaded (loaded.bad_map good faulty differs) (loaded.bad_map also broken other) = inl refl
+  both_unloaded (loaded.bad_map good faulty differs) (loaded.map_failed also) = inr (inr (inl refl))
+  both_unloaded (loaded.bad_map good faulty differs) loaded.map_wanting = inr (inr (inr (inr refl)))
+  both_unloaded (loaded.map_failed good) other = inr (inl (inl refl))
+  both_unloaded loaded.map_wanting other = inr (inl (inr (inr refl)))
+
+  -- a source with its map isn't unread
+  pub not_unloaded : {bytes : List ℕ} {tree : File} {input : Option Parts} {why : LoadFault} → IsSource (Some held) file bytes tree → HasInput (Some held) file input →
+      IsUnloaded (Some held) file why → GivesWay (status_of_fault why)
+  not_unloaded good has (loaded.unread is) = not_both held file good is
+  not_unloaded good has (loaded.map_too_long also faulty) = absurd (neither held file has faulty)
+  not_unloaded good has (loaded.bad_map also faulty differs) = absurd (neither held file has faulty)
+  not_unloaded good has (loaded.map_failed also) = inl refl
+  not_unloaded good has loaded.map_wanting = inr (inr refl)
+
+-- the status of what is said of such a file
+pub unloaded_status : (file : List ℕ) (told : Option Held) (why : LoadFault) → IsUnloaded told file why → status_of (message_of_fault file why) ≡ status_of_fault why
+unloaded_status file told why (loaded.unread is) = fault_status file told Maps why (unread is)
+unloaded_status file told _ (loaded.map_too_long good faulty) = refl
+unloaded_status file told _ (loaded.bad_map good faulty differs) = refl
+unloaded_status file told _ (loaded.map_failed good) = refl
+unloaded_status file told _ loaded.map_wanting = refl
 
 module _ (file : List ℕ) (seed count : ℕ) where
   -- the file that was run is a source

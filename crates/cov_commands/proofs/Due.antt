@@ -55,6 +55,7 @@ module _ (task : SourceTask) where
 never_fails : (why : LoadFault) → status_of_fault why ≡ status.WriteFault → ⊥
 never_fails fault.NoFile is = cc
 never_fails (fault.Refused path cause) is = cc
+never_fails (fault.BadMap path why) is = cc
 never_fails (fault.TooLong path) is = cc
 never_fails fault.TooManyFiles is = cc
 never_fails (fault.ReadFault path) is = cc
@@ -74,6 +75,7 @@ never_writes (Err why) is = never_fails why is
 never_ok : (why : LoadFault) → status_of_fault why ≡ status.Ok → ⊥
 never_ok fault.NoFile is = cc
 never_ok (fault.Refused path cause) is = cc
+never_ok (fault.BadMap path why) is = cc
 never_ok (fault.TooLong path) is = cc
 never_ok fault.TooManyFiles is = cc
 never_ok (fault.ReadFault path) is = cc
@@ -177,6 +179,7 @@ module _ (task : SourceTask) (file : List ℕ) (told : Option Held) where
           wanting : (why : LoadFault) → status_of_fault why ≡ status.Memory → message_of_fault file why ≡ said.OutOfMemory
           wanting fault.NoFile is = absurd cc
           wanting (fault.Refused path cause) is = absurd cc
+          wanting (fault.BadMap path why) is = absurd cc
           wanting (fault.TooLong path) is = absurd cc
           wanting fault.TooManyFiles is = absurd cc
           wanting (fault.ReadFault path) is = absurd cc
@@ -230,6 +233,7 @@ module _ (task : SourceTask) (file : List ℕ) (told : Option Held) where
 never_prints : (why : LoadFault) → PrintsAll (status_of_fault why) → ⊥
 never_prints fault.NoFile all = all
 never_prints (fault.Refused path cause) all = all
+never_prints (fault.BadMap path why) all = all
 never_prints (fault.TooLong path) all = all
 never_prints fault.TooManyFiles all = all
 never_prints (fault.ReadFault path) all = all

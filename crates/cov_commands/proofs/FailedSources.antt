@@ -41,6 +41,7 @@ told message result other (inr e) is not = absurd (not (sym e ∙ is))
 read_by : (file : List ℕ) (why : LoadFault) → status_of (message_of_fault file why) ≡ status.ReadFault → (path : List ℕ) × (why ≡ fault.ReadFault path)
 read_by file fault.NoFile is = absurd cc
 read_by file (fault.Refused path cause) is = absurd (subst IsOther is (of_cause path cause))
+read_by file (fault.BadMap path why) is = absurd cc
 read_by file (fault.TooLong path) is = absurd cc
 read_by file fault.TooManyFiles is = absurd cc
 read_by file (fault.ReadFault path) is = (path, refl)
@@ -55,6 +56,7 @@ source_read file why message result says ends is =
 written_by : (file : List ℕ) (why : LoadFault) → status_of (message_of_fault file why) ≡ status.WriteFault → ⊥
 written_by file fault.NoFile is = cc
 written_by file (fault.Refused path cause) is = subst IsOther is (of_cause path cause)
+written_by file (fault.BadMap path why) is = cc
 written_by file (fault.TooLong path) is = cc
 written_by file fault.TooManyFiles is = cc
 written_by file (fault.ReadFault path) is = cc

@@ -48,6 +48,7 @@ module _ (task : SourceTask) (file : List ℕ) (told : Option Held) where
   none_put : (why : LoadFault) (out : List ℕ) → Puts (status_of_fault why) task out file told told
   none_put fault.NoFile out = refl
   none_put (fault.Refused path cause) out = refl
+  none_put (fault.BadMap path why) out = refl
   none_put (fault.TooLong path) out = refl
   none_put fault.TooManyFiles out = refl
   none_put (fault.ReadFault path) out = refl

@@ -5,22 +5,21 @@ use Rattle.cov_run.specs.Loaded.{most}
 use Rattle.cov_run.specs.declared.fault.LoadFault.{LoadFault}
 use Rattle.cov_run.specs.declared.fault.LoadFault.TheVariants as fault
 use Rattle.cov_words.specs.declared.command.Command.TheVariants.{Instrument}
-use Rattle.cov_words.specs.declared.command.SourceTask.TheVariants.{Maps}
 use Rattle.cov_commands.specs.Instrument as S
 use Rattle.cov_commands.specs.Instrument.{Each, HoldsSource, AreSources, StopsAt, EndsWith, IsDue, Puts}
 use Rattle.cov_commands.specs.Line as said
 use Rattle.cov_commands.specs.Program.{AreLines, GivesWay}
-use Rattle.cov_commands.specs.Source.{message_of_cause, message_of_fault, status_of_fault, unread}
+use Rattle.cov_commands.specs.Source.{message_of_cause, message_of_fault, status_of_fault}
 use Rattle.cov_commands.specs.Status.{status_of}
 use Rattle.cov_commands.specs.declared.status.Status.{Status}
 use Rattle.cov_commands.specs.declared.status.Status.TheVariants as status
-use Rattle.cov_commands.proofs.Answered.{Same, both_unread, fault_status, not_both}
+use Rattle.cov_commands.proofs.Answered.{Same, both_unloaded, not_unloaded, unloaded_status}
 use Rattle.cov_commands.proofs.Stands.{Stands, IsSaid, memory_is_said}
 
 -- the message of what ends the work has its status
 stop_status : (told : Option Held) (before : ℕ) (files : List (List ℕ)) (file : List ℕ) (why : LoadFault) → StopsAt told before files file why →
     status_of (message_of_fault file why) ≡ status_of_fault why
-stop_status told before _ file why (S.here is) = fault_status file told Maps why (unread is)
+stop_status told before _ file why (S.here is) = unloaded_status file told why is
 stop_status told before _ file _ (S.too_many is full) = refl
 stop_status told before _ file why (S.later {files = files} is room stops) = stop_status told (before + 1) files file why stops
 
@@ -29,19 +28,19 @@ stop_status told before _ file why (S.later {files = files} is room stops) = sto
 module _ (held : Held) where
   ends_alike : (before : ℕ) (files : List (List ℕ)) (file path : List ℕ) (one other : LoadFault) → StopsAt (Some held) before files file one → StopsAt (Some held) before files path other →
       Same (status_of_fault one) (status_of_fault other)
-  ends_alike before _ file _ one other (S.here is) (S.here also) = both_unread held file is also
-  ends_alike before _ file _ one _ (S.here is) (S.too_many good full) = inr (inl (not_both held file good.2 is))
-  ends_alike before _ file path one other (S.here is) (S.later good room stops) = inr (inl (not_both held file good.2 is))
-  ends_alike before _ file _ _ other (S.too_many good full) (S.here is) = inr (inr (not_both held file good.2 is))
+  ends_alike before _ file _ one other (S.here is) (S.here also) = both_unloaded held file is also
+  ends_alike before _ file _ one _ (S.here is) (S.too_many good full) = inr (inl (not_unloaded held file good.3 good.4 is))
+  ends_alike before _ file path one other (S.here is) (S.later good room stops) = inr (inl (not_unloaded held file good.3 good.4 is))
+  ends_alike before _ file _ _ other (S.too_many good full) (S.here is) = inr (inr (not_unloaded held file good.3 good.4 is))
   ends_alike before _ file _ _ _ (S.too_many good full) (S.too_many also again) = inl refl
   ends_alike before _ file path _ other (S.too_many good full) (S.later also room stops) = absurd (omega (arith, full, room))
-  ends_alike before _ file path one other (S.later good room stops) (S.here is) = inr (inr (not_both held path good.2 is))
+  ends_alike before _ file path one other (S.later good room stops) (S.here is) = inr (inr (not_unloaded held path good.3 good.4 is))
   ends_alike before _ file path one _ (S.later good room stops) (S.too_many also full) = absurd (omega (arith, full, room))
   ends_alike before _ file path one other (S.later {files = files} good room stops) (S.later also again ends) = ends_alike (before + 1) files file path one other stops ends
 
   sources_end : (before : ℕ) (files : List (List ℕ)) (file : List ℕ) (why : LoadFault) → before + length files ≤ most → Each (HoldsSource (Some held)) files →
       StopsAt (Some held) before files file why → GivesWay (status_of_fault why)
-  sources_end before _ file why within each (S.here is) = not_both held file each.0.2 is
+  sources_end before _ file why within each (S.here is) = not_unloaded held file each.0.3 each.0.4 is
   sources_end before _ file _ within each (S.too_many is full) = absurd (omega (arith, within, full))
   sources_end before _ file why within each (S.later {files = files} is room stops) = sources_end (before + 1) files file why (omega (arith, within)) each.1 stops
 
@@ -110,6 +109,10 @@ module _ (out : List ℕ) (files : List (List ℕ)) (told : Option Held) where
   stop_is_said file fault.NoFile stops =
       let ends : EndsWith status.NoFile files told (said.NoFile file) = record { file = file; why = fault.NoFile; stops = stops; status = refl; said = refl } in
       record { stands = due_stands status.NoFile (said.NoFile file, ends); are = (said.NoFile file, ends, refl) }
+  stop_is_said file (fault.BadMap path why) stops =
+      let message = said.BadInput path (said.what_of_map why) in
+      let ends : EndsWith status.BadInput files told message = record { file = file; why = fault.BadMap path why; stops = stops; status = refl; said = refl } in
+      record { stands = due_stands status.BadInput (message, ends); are = (message, ends, refl) }
   stop_is_said file (fault.TooLong path) stops =
       let ends : EndsWith status.Limit files told (said.TooLong path) = record { file = file; why = fault.TooLong path; stops = stops; status = refl; said = refl } in
       record { stands = due_stands status.Limit (said.TooLong path, ends); are = (said.TooLong path, ends, refl) }
@@ -133,6 +136,7 @@ module _ (out : List ℕ) (files : List (List ℕ)) (told : Option Held) where
   nothing_put : (why : LoadFault) (after : Option Held) → after ≡ told → Puts (status_of_fault why) out files told after
   nothing_put fault.NoFile after same = same
   nothing_put (fault.Refused path cause) after same = same
+  nothing_put (fault.BadMap path why) after same = same
   nothing_put (fault.TooLong path) after same = same
   nothing_put fault.TooManyFiles after same = same
   nothing_put (fault.ReadFault path) after same = same
@@ -147,6 +151,7 @@ module _ (out : List ℕ) (files : List (List ℕ)) (told : Option Held) where
   by_read : (why : LoadFault) → status_of_fault why ≡ status.ReadFault → (path : List ℕ) × (why ≡ fault.ReadFault path)
   by_read fault.NoFile is = absurd cc
   by_read (fault.Refused path cause) is = absurd cc
+  by_read (fault.BadMap path why) is = absurd cc
   by_read (fault.TooLong path) is = absurd cc
   by_read fault.TooManyFiles is = absurd cc
   by_read (fault.ReadFault path) is = (path, refl)
@@ -160,6 +165,7 @@ module _ (out : List ℕ) (files : List (List ℕ)) (told : Option Held) where
   no_write : (why : LoadFault) → status_of_fault why ≡ status.WriteFault → ⊥
   no_write fault.NoFile is = cc
   no_write (fault.Refused path cause) is = cc
+  no_write (fault.BadMap path why) is = cc
   no_write (fault.TooLong path) is = cc
   no_write fault.TooManyFiles is = cc
   no_write (fault.ReadFault path) is = cc

@@ -10,7 +10,9 @@ use Rattle.js_tree.specs.Plain.{File}
 use Rattle.js_reading.specs.Reads.{Reads}
 use Rattle.cov_base.specs.Store.{Held, BothTell, PutsAt}
 use Rattle.cov_base.specs.declared.failed.Failed.{Failed}
-use Rattle.cov_run.specs.Loaded.{IsSource}
+use Rattle.source_map.specs.declared.place.Parts.{Parts}
+use Rattle.cov_run.specs.Loaded.{HasInput, IsSource}
+use Rattle.cov_run.proofs.Outcomes.{same_input}
 use Rattle.cov_run.proofs.Endings.{ends_by}
 use Rattle.cov_commands.specs.Instrument.{Each, IsApart, IsSourcePath, PutsAll, PutsHalf, no_map, no_more, PutsSome, Stands, map_below, map_for, path_below}
 use Rattle.cov_commands.specs.private.Written.{IsWritten, PutsBoth, no_text, with_text, PutsMap, files_of}
@@ -158,11 +160,12 @@ module _ (out : List ℕ) (written : Written) (path : IsSourcePath written.file)
 some_is : {one other : List ℕ} → Some one ≡ Some other → one ≡ other
 some_is same = cc
 
-same_map : (old : Held) (file : List ℕ) (bytes more : List ℕ) (tree other : File) → IsSource (Some old) file bytes tree → IsSource (Some old) file more other →
-    map_for file bytes tree ≡ map_for file more other
-same_map old file bytes more tree other is also =
+same_map : (old : Held) (file : List ℕ) (bytes more : List ℕ) (input beside : Option Parts) (tree other : File) → IsSource (Some old) file bytes tree → IsSource (Some old) file more other →
+    HasInput (Some old) file input → HasInput (Some old) file beside → map_for file bytes input tree ≡ map_for file more beside other
+same_map old file bytes more input beside tree other is also has have =
     let same : bytes ≡ more = some_is (sym is.held ∙ also.held) in
-    ap₂ (map_for file) same (also.only tree (subst (λ b. Reads b tree) same is.accepted.reads))
+    ap (λ i. map_for file bytes i tree) (same_input old file has have)
+    ∙ ap₂ (λ b t. map_for file b beside t) same (also.only tree (subst (λ b. Reads b tree) same is.accepted.reads))
 
 module _ (out : List ℕ) (old middle new : Held) (files : List (List ℕ)) (written : Written) (puts : PutsAll out files old middle) (paths : Each IsSourcePath files)
     (path : IsSourcePath written.file) (keeps : Keeps out written middle new) where
@@ -175,7 +178,9 @@ module _ (out : List ℕ) (old middle new : Held) (files : List (List ℕ)) (wri
     bytes = is.bytes;
     tree = is.tree;
     text = is.text;
+    input = is.input;
     source = is.source;
+    has = is.has;
     is = is.is;
     stands = keeps (path_below out file) (below_apart out file written.file differ, text_no_map out file written.file ends) ∙ is.stands;
     map = keeps (map_below out file) (λ same. text_no_map out written.file file path (sym same), maps_apart out file written.file differ) ∙ is.map;
@@ -199,14 +204,14 @@ module _ (out : List ℕ) (old middle new : Held) (files : List (List ℕ)) (wri
       )
 
   module _ (is : IsWritten (Some old) written) where
-    beside : (m : Option (List ℕ)) → map_for written.file is.bytes is.tree ≡ m → option_or m (middle (map_below out written.file)) ≡ option_or m (old (map_below out written.file))
+    beside : (m : Option (List ℕ)) → map_for written.file is.bytes is.input is.tree ≡ m → option_or m (middle (map_below out written.file)) ≡ option_or m (old (map_below out written.file))
     beside (Some bytes) one = refl
     beside None none = by (among files puts.stand paths)
       where
         by : Each (IsApart out (map_below out written.file)) files ⊎ Stands out old middle written.file → middle (map_below out written.file) ≡ old (map_below out written.file)
         by (inl apart) = puts.others (map_below out written.file) apart
         by (inr stands) =
-            stands.map ∙ ap (λ m. option_or m (old (map_below out written.file))) (same_map old written.file stands.bytes is.bytes stands.tree is.tree stands.source is.source ∙ none)
+            stands.map ∙ ap (λ m. option_or m (old (map_below out written.file))) (same_map old written.file stands.bytes is.bytes stands.input is.input stands.tree is.tree stands.source is.source stands.has is.has ∙ none)
 
     -- one more
     more : new (path_below out written.file) ≡ Some written.text → new (map_below out written.file) ≡ option_or written.map (middle (map_below out written.file)) →
@@ -221,10 +226,12 @@ module _ (out : List ℕ) (old middle new : Held) (files : List (List ℕ)) (wri
           bytes = is.bytes;
           tree = is.tree;
           text = written.text;
+          input = is.input;
           source = is.source;
+          has = is.has;
           is = is.is;
           stands = text;
-          map = map ∙ ap (λ m. option_or m (middle (map_below out written.file))) is.map ∙ beside (map_for written.file is.bytes is.tree) refl;
+          map = map ∙ ap (λ m. option_or m (middle (map_below out written.file))) is.map ∙ beside (map_for written.file is.bytes is.input is.tree) refl;
         }
 
         both : (file : List ℕ) → IsSourcePath file → Stands out old middle file → Stands out old new file
@@ -253,7 +260,7 @@ module _ (out : List ℕ) (old middle new : Held) (files : List (List ℕ)) (wri
         by : (new (map_below out written.file) ≡ middle (map_below out written.file)) ⊎ (new (path_below out written.file) ≡ Some written.text) →
             Each (IsApart out (map_below out written.file)) files → PutsHalf out old new written.file
         by (inl kept) apart = no_map (kept ∙ puts.others (map_below out written.file) apart)
-        by (inr text) apart = no_more is.source is.is text
+        by (inr text) apart = no_more is.source is.has is.is text
 
 -- ---- where the store tells
 

@@ -15,25 +15,25 @@ use Rattle.cov_commands.specs.Instrument.{Each, AreSources, HoldsSource, IsTextO
 use Rattle.cov_commands.specs.private.Written.{IsWritten, AreWritten, files_of}
 use Rattle.cov_commands.specs.declared.written.Written.{Written}
 
-map_if : (file : Source) (tree : File) (ignored : Bool) → is_ignored tree ≡ ignored → map_for file.path file.bytes tree ≡ (if ignored then None else Some (mapped_text file.path file.bytes tree).map)
-map_if file tree ignored is = ap (λ b. if b then None else Some (mapped_text file.path file.bytes tree).map) is
+map_if : (file : Source) (tree : File) (ignored : Bool) → is_ignored tree ≡ ignored → map_for file.path file.bytes file.input tree ≡ (if ignored then None else Some (mapped_text file.path file.bytes file.input tree).map)
+map_if file tree ignored is = ap (λ b. if b then None else Some (mapped_text file.path file.bytes file.input tree).map) is
 
 -- the text of a source that is counted, or its bytes
 pub counted_text : (file : Source) (tree : File) (text : Option MappedText) → file.counted ≡ true → Instruments file tree text →
-    IsTextOf file.path file.bytes tree (unwrap_or (option_map (λ (m : MappedText). m.text) text) file.bytes)
+    IsTextOf file.path file.bytes file.input tree (unwrap_or (option_map (λ (m : MappedText). m.text) text) file.bytes)
 counted_text file tree _ counted (sim.left out) = S.left (subst (λ c. (not c || is_ignored tree) ≡ true) counted out)
 counted_text file tree _ counted (sim.made kept again) = S.made (subst (λ c. (not c || is_ignored tree) ≡ false) counted kept) again
 
 -- and its map, or none
 pub counted_map : (file : Source) (tree : File) (text : Option MappedText) → file.counted ≡ true → Instruments file tree text →
-    option_map (λ (m : MappedText). m.map) text ≡ map_for file.path file.bytes tree
+    option_map (λ (m : MappedText). m.map) text ≡ map_for file.path file.bytes file.input tree
 counted_map file tree _ counted (sim.left out) = sym (map_if file tree true (subst (λ c. (not c || is_ignored tree) ≡ true) counted out))
 counted_map file tree _ counted (sim.made kept again) = sym (map_if file tree false (subst (λ c. (not c || is_ignored tree) ≡ false) counted kept))
 
 -- ---- where this is put for all files they are sources
 
 pub written_source : (told : Option Held) (written : Written) → IsWritten told written → HoldsSource told written.file
-written_source told written is = (is.bytes, is.tree, is.source)
+written_source told written is = (is.bytes, is.tree, is.input, is.source, is.has)
 
 each_source : (told : Option Held) (list : List Written) → Each (IsWritten told) list → Each (HoldsSource told) (files_of list)
 each_source told [] each = tt

@@ -1,5 +1,5 @@
 -- What `demo` runs, and what it says of the coverage that the run left.
-use Rattle.std.specs.Prelude.{ℕ, true, List, ◌++◌, codes, decimal, Some}
+use Rattle.std.specs.Prelude.{ℕ, true, List, ◌++◌, codes, decimal, Some, None}
 use Rattle.cov_base.specs.Store.{Held}
 use Rattle.cov_object.specs.declared.file.FileCoverage.{FileCoverage}
 use Rattle.cov_report.specs.Percent.{percent_text}
@@ -14,9 +14,9 @@ use Rattle.cov_commands.specs.DemoFile.{demo_text}
 abbrev pub demo_turns : ℕ
 demo_turns = 9007199254740991
 
--- the file that is made is the one source of the program, at a path, and counted
+-- the file that is made is the one source of the program, at a path, counted, and made from no other
 abbrev pub demo_source : List ℕ → (seed count : ℕ) → Source
-demo_source file seed count = record { path = file; bytes = demo_text seed count; counted = true }
+demo_source file seed count = record { path = file; bytes = demo_text seed count; counted = true; input = None }
 
 -- so it stands in the place of what is held at each path
 abbrev pub demo_held : (seed count : ℕ) → Held

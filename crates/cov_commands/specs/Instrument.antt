@@ -5,14 +5,14 @@ use Rattle.std.specs.List.{ends_with}
 use Rattle.std.specs.Option.{option_or}
 use Rattle.js_tree.specs.Plain.{File}
 use Rattle.js_layout.specs.Layout.{layout}
+use Rattle.source_map.specs.declared.place.Parts.{Parts}
 use Rattle.source_map.specs.Write.{map_text}
-use Rattle.printed_map.specs.Marked.{marked}
 use Rattle.cov_base.specs.Store.{Held, BothTell}
-use Rattle.cov_run.specs.Loaded.{IsSource, IsUnread, most}
+use Rattle.cov_run.specs.Loaded.{HasInput, IsSource, IsUnloaded, most}
 use Rattle.cov_run.specs.declared.fault.LoadFault.{LoadFault}
 use Rattle.cov_run.specs.declared.fault.LoadFault.TheVariants as fault
 use Rattle.cov_sim.specs.Again.{IsReadAgain}
-use Rattle.cov_sim.specs.Instrumented.{instrumented, is_ignored}
+use Rattle.cov_sim.specs.Instrumented.{instrumented, is_ignored, map_back}
 use Rattle.cov_commands.specs.Line as said
 use Rattle.cov_commands.specs.Source.{message_of_fault, status_of_fault}
 use Rattle.cov_commands.specs.declared.status.Status.{Status}
@@ -36,22 +36,23 @@ path_below out file = out ++ 0x2F ∷ file
 abbrev pub map_below : List ℕ → List ℕ → List ℕ
 map_below out file = path_below out (file ++ codes ".map")
 
--- what is put for the source at a path with these bytes and this tree: its bytes where a comment takes it out, and else its
+-- what is put for the source at a path with these bytes, this source map and this tree: its bytes where a comment takes it out, and else its
 -- instrumented text, which is read again as the instrumented tree
-pub data IsTextOf (path bytes : List ℕ) (tree : File) : List ℕ → Type 0 where
-  left : is_ignored tree ≡ true → IsTextOf path bytes tree bytes
-  made : is_ignored tree ≡ false → IsReadAgain (layout (instrumented path bytes tree)) (instrumented path bytes tree) →
-      IsTextOf path bytes tree (layout (instrumented path bytes tree))
+pub data IsTextOf (path bytes : List ℕ) (input : Option Parts) (tree : File) : List ℕ → Type 0 where
+  left : is_ignored tree ≡ true → IsTextOf path bytes input tree bytes
+  made : is_ignored tree ≡ false → IsReadAgain (layout (instrumented path bytes input tree)) (instrumented path bytes input tree) →
+      IsTextOf path bytes input tree (layout (instrumented path bytes input tree))
 
--- the text of the map of its instrumented text; it has none where a comment takes it out
-abbrev pub map_for : (path bytes : List ℕ) → File → Option (List ℕ)
-map_for path bytes tree = if is_ignored tree then None else Some (map_text (marked path (instrumented path bytes tree)))
+-- the text of the map of its instrumented text, which leads back to it and then where its own source map does; it has none where a comment
+-- takes it out
+abbrev pub map_for : (path bytes : List ℕ) → (input : Option Parts) → File → Option (List ℕ)
+map_for path bytes input tree = if is_ignored tree then None else Some (map_text (map_back path bytes input tree))
 
 -- ---- when each status is due; `told` is what the store holds, where it tells
 
--- all files are sources, and not too many
+-- all files are sources with their maps, and not too many
 abbrev pub HoldsSource : Option Held → List ℕ → Type 0
-HoldsSource told file = (bytes : List ℕ) × (tree : File) × IsSource told file bytes tree
+HoldsSource told file = (bytes : List ℕ) × (tree : File) × (input : Option Parts) × IsSource told file bytes tree × HasInput told file input
 
 pub record AreSources (files : List (List ℕ)) (told : Option Held) : Type 0 where
   pub within : length files ≤ most
@@ -59,7 +60,7 @@ pub record AreSources (files : List (List ℕ)) (told : Option Held) : Type 0 wh
 
 -- the first of the files that ends the work, where there were so many sources before: it isn't read, or is one source too many
 pub data StopsAt (told : Option Held) : ℕ → List (List ℕ) → List ℕ → LoadFault → Type 0 where
-  here : {before : ℕ} {file : List ℕ} {files : List (List ℕ)} {why : LoadFault} → IsUnread told file why → StopsAt told before (file ∷ files) file why
+  here : {before : ℕ} {file : List ℕ} {files : List (List ℕ)} {why : LoadFault} → IsUnloaded told file why → StopsAt told before (file ∷ files) file why
   too_many : {before : ℕ} {file : List ℕ} {files : List (List ℕ)} → HoldsSource told file → most ≤ before → StopsAt told before (file ∷ files) file fault.TooManyFiles
   later : {before : ℕ} {file at : List ℕ} {files : List (List ℕ)} {why : LoadFault} → HoldsSource told file → before < most → StopsAt told (before + 1) files at why →
       StopsAt told before (file ∷ files) at why
@@ -85,10 +86,12 @@ pub record Stands (out : List ℕ) (old new : Held) (file : List ℕ) : Type 0 w
   pub bytes : List ℕ
   pub tree : File
   pub text : List ℕ
+  pub input : Option Parts
   pub source : IsSource (Some old) file bytes tree
-  pub is : IsTextOf file bytes tree text
+  pub has : HasInput (Some old) file input
+  pub is : IsTextOf file bytes input tree text
   pub stands : new (path_below out file) ≡ Some text
-  pub map : new (map_below out file) ≡ option_or (map_for file bytes tree) (old (map_below out file))
+  pub map : new (map_below out file) ≡ option_or (map_for file bytes input tree) (old (map_below out file))
 
 -- the path isn't that of a file below the folder, nor of its map
 abbrev pub IsApart : List ℕ → List ℕ → List ℕ → Type 0
@@ -102,7 +105,7 @@ pub record PutsAll (out : List ℕ) (files : List (List ℕ)) (old new : Held) :
 -- of the puts of a file one failed: that of its text, and nothing was put beside it, or that of its map, and the text stands
 pub data PutsHalf (out : List ℕ) (old new : Held) (file : List ℕ) : Type 0 where
   no_map : new (map_below out file) ≡ old (map_below out file) → PutsHalf out old new file
-  no_more : {bytes text : List ℕ} {tree : File} → IsSource (Some old) file bytes tree → IsTextOf file bytes tree text → new (path_below out file) ≡ Some text →
+  no_more : {bytes text : List ℕ} {tree : File} {input : Option Parts} → IsSource (Some old) file bytes tree → HasInput (Some old) file input → IsTextOf file bytes input tree text → new (path_below out file) ≡ Some text →
       PutsHalf out old new file
 
 -- a put failed: the files before that one stand there, the path of what was put may hold anything, and every other path holds what it held

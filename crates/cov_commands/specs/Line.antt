@@ -7,6 +7,8 @@ use Rattle.cov_summary.specs.declared.shortfall.Shortfall.{Shortfall}
 use Rattle.cov_report.specs.Percent.{percent_text}
 use Rattle.cov_inputs.specs.declared.refusal.What.{What}
 use Rattle.cov_inputs.specs.declared.refusal.What.TheVariants as what
+use Rattle.source_map.specs.declared.fault.MapFault.{MapFault}
+use Rattle.source_map.specs.declared.fault.MapFault.TheVariants as map_fault
 use Rattle.js_terms.specs.declared.place.Pos.{Pos}
 use Rattle.js_reading.specs.declared.unsupported.Unsupported.{Unsupported}
 use Rattle.js_reading.specs.declared.unsupported.Unsupported.TheVariants as form
@@ -39,6 +41,14 @@ pub data Message : Type 0 where
   CountTooLarge : (sum : ℕ) → Message
   Below : (shortfalls : List Shortfall) → Message
 
+-- what is wrong with a source map; that it is too long, and want of memory, aren't told so
+abbrev pub what_of_map : MapFault → What
+what_of_map map_fault.TooLong = what.NotJson
+what_of_map map_fault.BadJson = what.NotJson
+what_of_map (map_fault.BadMember name) = what.Member name
+what_of_map (map_fault.BadMappings at) = what.Mappings at
+what_of_map map_fault.Memory = what.NotJson
+
 -- what a complaint of the code says
 abbrev pub message_of : Complaint → Message
 message_of complaint.Usage = Usage
@@ -57,6 +67,7 @@ message_of (complaint.Uncaught shown) = Uncaught shown.now
 message_of (complaint.Range why) = Range why
 message_of (complaint.Going turns) = Going turns
 message_of (complaint.BadInput path what) = BadInput path.now what.now
+message_of (complaint.BadMap path fault) = BadInput path.now (what_of_map fault.now)
 message_of (complaint.CountTooLarge sum) = CountTooLarge sum
 message_of (complaint.Below shortfalls) = Below shortfalls.now
 
@@ -102,7 +113,7 @@ kind_text kind.Sparse = codes "Sparse"
 kind_text kind.Convert = codes "Convert"
 kind_text kind.Text = codes "Text"
 
--- what is wrong with a coverage file, or with a source map in it
+-- what is wrong with a coverage file, or with a source map
 abbrev pub what_text : What → List ℕ
 what_text what.NotJson = codes "not JSON"
 what_text (what.Member name) = codes "member " ++ name

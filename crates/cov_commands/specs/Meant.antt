@@ -20,7 +20,7 @@ use Rattle.cov_words.specs.declared.command.Command.{Command}
 use Rattle.cov_words.specs.declared.command.Command.TheVariants.{OnSource, Instrument}
 use Rattle.cov_words.specs.declared.command.SourceTask.{SourceTask}
 use Rattle.cov_words.specs.declared.command.SourceTask.TheVariants.{Run, Demo}
-use Rattle.cov_run.specs.Loaded.{Loaded}
+use Rattle.cov_run.specs.Loaded.{Loaded, map_in, map_path}
 use Rattle.cov_run.specs.Meant.{Means, IsMeant}
 use Rattle.cov_commands.specs.Coverage.{json_line}
 use Rattle.cov_commands.specs.Demo.{demo_source, demo_summary, demo_turns}
@@ -93,10 +93,10 @@ abbrev pub IsMember : List ℕ → List (List ℕ) → Type 0
 IsMember path [] = ⊥
 IsMember path (file ∷ files) = (path ≡ file) ⊎ IsMember path files
 
--- the sources are among the files, as these are held, and each is counted
+-- the sources are among the files, as these are held with their maps, and each is counted
 abbrev pub AreAmong : List (List ℕ) → Held → List Source → Type 0
 AreAmong files old [] = Unit {0}
-AreAmong files old (source ∷ sources) = (IsMember source.path files × (source.counted ≡ true) × (old source.path ≡ Some source.bytes)) × AreAmong files old sources
+AreAmong files old (source ∷ sources) = (IsMember source.path files × (source.counted ≡ true) × (old source.path ≡ Some source.bytes) × (map_in (old (map_path source.path)) ≡ Ok source.input)) × AreAmong files old sources
 
 -- below the folder stands the text of each source with its map, and where a comment takes it out the source itself
 pub data TheyStand (out : List ℕ) (new : Held) : List Source → List Instrumented → Type 0 where

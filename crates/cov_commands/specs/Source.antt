@@ -33,6 +33,7 @@ use Rattle.cov_hash.specs.Hash.{hash_text}
 use Rattle.cov_commands.specs.Coverage.{json_line}
 use Rattle.cov_commands.specs.Demo.{demo_held, demo_source, demo_summary, demo_turns}
 use Rattle.cov_commands.specs.Line as said
+use Rattle.cov_commands.specs.Line.{what_of_map}
 use Rattle.cov_commands.specs.declared.answer.Answer.{Answer}
 use Rattle.cov_commands.specs.declared.status.Status.{Status}
 use Rattle.cov_commands.specs.declared.status.Status.TheVariants as status
@@ -103,6 +104,7 @@ message_of_cause path (why.Broken broken) = said.Broken path broken
 abbrev pub message_of_fault : List ℕ → LoadFault → said.Message
 message_of_fault file fault.NoFile = said.NoFile file
 message_of_fault file (fault.Refused path cause) = message_of_cause path cause
+message_of_fault file (fault.BadMap path why) = said.BadInput path (what_of_map why)
 message_of_fault file (fault.TooLong path) = said.TooLong path
 message_of_fault file fault.TooManyFiles = said.TooManyFiles
 message_of_fault file (fault.ReadFault path) = said.ReadFailed path
@@ -138,6 +140,7 @@ status_of_end outcome.Going = status.Going
 abbrev pub status_of_fault : LoadFault → Status
 status_of_fault fault.NoFile = status.NoFile
 status_of_fault (fault.Refused path cause) = status.Refused
+status_of_fault (fault.BadMap path why) = status.BadInput
 status_of_fault (fault.TooLong path) = status.Limit
 status_of_fault fault.TooManyFiles = status.Limit
 status_of_fault (fault.ReadFault path) = status.ReadFault

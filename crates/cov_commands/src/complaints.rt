@@ -33,7 +33,9 @@ fn status_of(complaint: &Complaint<'_>) -> Status
         Complaint::Uncaught { shown: _ } => Status::Threw,
         Complaint::Range { kind: _ } => Status::Range,
         Complaint::Going { turns: _ } => Status::Going,
-        Complaint::BadInput { path: _, what: _ } => Status::BadInput,
+        Complaint::BadInput { path: _, what: _ } | Complaint::BadMap { path: _, fault: _ } => {
+            Status::BadInput
+        }
         Complaint::CountTooLarge { sum: _ } => Status::Limit,
         Complaint::Below { shortfalls: _ } => Status::Below,
     }

@@ -55,6 +55,7 @@ fn source_of(alloc: Global, seed: u64, count: u64, path: &str) -> Result<Source,
         path: Text::from_str(alloc, path)?,
         bytes: Items::from_vec(text.into_bytes()),
         counted: true,
+        input: None,
     })
 }
 

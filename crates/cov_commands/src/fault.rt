@@ -16,6 +16,10 @@ pub(crate) fn complaint_of_fault<'a>(path: &'a str, fault: &'a LoadFault) -> Com
     match fault {
         LoadFault::NoFile => Complaint::NoFile { path },
         LoadFault::Refused { path, why } => complaint_of_cause(path.as_str(), why),
+        LoadFault::BadMap { path, fault } => Complaint::BadMap {
+            path: path.as_str(),
+            fault,
+        },
         LoadFault::TooLong { path } => Complaint::TooLong {
             path: path.as_str(),
         },

@@ -14,8 +14,8 @@ use cov_base::{Failed, Sink, Store};
 use items::Text;
 use std::alloc::Global;
 
-/// Puts the instrumented texts of the source files at these paths below a folder, and beside each its map. All files are read before
-/// anything is put. A file that one of its comments takes out is put as it is, without a map.
+/// Puts the instrumented texts of the source files at these paths below a folder, and beside each its map, which leads where a file's own
+/// source map does, if one stands beside it. All files are read, each with its map, before anything is put. A file that one of its comments takes out is put as it is, without a map.
 pub fn on_instrument<S: Store, E: Sink>(
     alloc: Global,
     out: &str,

@@ -1,15 +1,16 @@
 ghost use Rattle.std.specs.Prelude.{◌≡◌, ◌++◌, string_bytes, IfOk};
 ghost use Rattle.std.specs.List.{flat_map};
-ghost use Rattle.cov_commands.specs.Line.{line, refused_line, form_text, rule_text, kind_text, metric_text, shortfall_line, what_text, message_of, BadInput, Broken, Going, LeftOut, OutOfMemory, NotUtf8, TooLong, Uncaught};
+ghost use Rattle.cov_commands.specs.Line.{line, refused_line, form_text, rule_text, kind_text, metric_text, shortfall_line, what_text, message_of, what_of_map as map_what, BadInput, Broken, Going, LeftOut, OutOfMemory, NotUtf8, TooLong, Uncaught};
 
 use cov_inputs::What;
 use cov_report::percent_of;
 use cov_summary::{Metric, Shortfall};
-use items::Memory;
+use items::{Memory, Text};
 use js_parser::Unsupported;
 use js_scopes::{ScopeFault, ScopeFaultKind};
 use js_tree::Pos;
 use js_value::Kind;
+use source_map::MapFault;
 use std::alloc::Global;
 
 /// Why the program gives no answer, or how the program that it ran ended.
@@ -78,6 +79,11 @@ pub enum Complaint<'a> {
         path: &'a str,
         what: &'a What,
     },
+    /// The file at this path, beside a source, is no source map: what is wrong with it.
+    BadMap {
+        path: &'a str,
+        fault: &'a MapFault,
+    },
     /// A sum of counts reaches 2^53: it is this.
     CountTooLarge {
         sum: u64,
@@ -117,6 +123,10 @@ pub fn line(alloc: Global, complaint: &Complaint<'_>) -> Result<Vec<u8>, Memory>
         }
         Complaint::Going { turns } => going_line(alloc, *turns),
         Complaint::BadInput { path, what } => bad_input_line(alloc, path, what),
+        Complaint::BadMap { path, fault } => {
+            let what = what_of_map(alloc, fault)?;
+            bad_input_line(alloc, path, &what)
+        }
         Complaint::CountTooLarge { sum } => {
             Ok(format!(in alloc; "Limit: count {sum}\n")?.into_bytes())
         }
@@ -222,6 +232,19 @@ fn uncaught_line(alloc: Global, shown: &[u8]) -> Result<Vec<u8>, Memory>
     bytes.extend_from_slice(shown)?;
     bytes.push(b'\n')?;
     Ok(bytes)
+}
+
+/// What is wrong with a source map.
+fn what_of_map(alloc: Global, fault: &MapFault) -> Result<What, Memory>
+    ensures { IfOk result (λ what. what ≡ map_what fault.now) }
+{
+    match fault {
+        MapFault::BadMember { name } => Ok(What::Member {
+            name: Text::from_str(alloc, name.as_str())?,
+        }),
+        MapFault::BadMappings { at } => Ok(What::Mappings { at: *at }),
+        MapFault::BadJson | MapFault::TooLong | MapFault::Memory => Ok(What::NotJson),
+    }
 }
 
 /// The line of a file at a path that is no coverage file.

@@ -4,17 +4,18 @@ ghost use Rattle.std.specs.Option.{option_map, unwrap_or};
 ghost use Rattle.js_tree.specs.Tree.{plain_file};
 ghost use Rattle.js_scopes.specs.Accepted.{Accepted};
 ghost use Rattle.cov_base.specs.Causes.{Rose};
-ghost use Rattle.cov_run.specs.Loaded.{IsUnread, most};
+ghost use Rattle.cov_run.specs.Loaded.{IsUnloaded, most};
 ghost use Rattle.cov_run.specs.declared.fault.LoadFault.TheVariants as fault;
 ghost use Rattle.cov_commands.specs.Instrument.{IsTextOf, StopsAt, map_for};
 ghost use Rattle.cov_sim.specs.declared.instrumented.MappedText.{MappedText as Made};
 ghost use Rattle.cov_commands.specs.private.Written.{IsWritten, AreWritten};
 
 use cov_base::Store;
-use cov_run::{LoadFault, read_source};
+use cov_run::{LoadFault, read_mapped};
 use cov_sim::{MappedText, Source, text_for};
 use items::{Items, Memory, Text};
 use js_scopes::Checked;
+use source_map::InputMap;
 use std::alloc::Global;
 
 /// The most source files that are taken.
@@ -79,7 +80,7 @@ fn add<S: Store>(
     ensures added { OnOk result ((written : Written) × (written.file ≡ file.now) × IsWritten (S.held store.old) written × (list.new.items ≡ list.old.items ++ written ∷ [])) }
     ensures room { OnOk result (length list.old.items < most) }
     ensures stops { IfErr result (λ why. (files : List (List ℕ)) → StopsAt (S.held store.old) (length list.old.items) (file.now ∷ files) file.now why) }
-    ensures failed { (at : List ℕ) → result ≡ Err (fault.ReadFault at) → S.fails store.old at store.new }
+    ensures failed { (at : List ℕ) → result ≡ Err (fault.ReadFault at) → (before : S) × S.fails before at store.new }
     ensures rose { (at : List ℕ) → result ≡ Err (fault.ReadFault at) → Rose (S.read_faults store.old) (S.read_faults store.new) }
     ensures later { S.read_faults store.old ≤ S.read_faults store.new }
     ensures unchanged { S.held store.new ≡ S.held store.old }
@@ -102,15 +103,15 @@ fn add<S: Store>(
 fn written_at<S: Store>(alloc: Global, store: &mut S, file: &str) -> Result<Written, LoadFault>
     ensures file { IfOk result (λ written. written.file ≡ file.now) }
     ensures written { IfOk result (λ written. IsWritten (S.held store.old) written) }
-    ensures unread { IfErr result (λ why. IsUnread (S.held store.old) file.now why) }
-    ensures failed { (at : List ℕ) → result ≡ Err (fault.ReadFault at) → S.fails store.old at store.new }
+    ensures unread { IfErr result (λ why. IsUnloaded (S.held store.old) file.now why) }
+    ensures failed { (at : List ℕ) → result ≡ Err (fault.ReadFault at) → (before : S) × S.fails before at store.new }
     ensures rose { (at : List ℕ) → result ≡ Err (fault.ReadFault at) → Rose (S.read_faults store.old) (S.read_faults store.new) }
     ensures later { S.read_faults store.old ≤ S.read_faults store.new }
     ensures unchanged { S.held store.new ≡ S.held store.old }
     ensures puts { S.put_faults store.new ≡ S.put_faults store.old }
 {
-    match read_source(alloc, store, file) {
-        Ok((text, tree)) => match written_for(alloc, file, &text, tree) {
+    match read_mapped(alloc, store, file) {
+        Ok((text, tree, input)) => match written_for(alloc, file, &text, tree, input) {
             Ok(written) => Ok(written),
             Err(_) => Err(LoadFault::Memory),
         },
@@ -118,30 +119,37 @@ fn written_at<S: Store>(alloc: Global, store: &mut S, file: &str) -> Result<Writ
     }
 }
 
-/// What is put for the source at a path, which has this text and this tree.
+/// What is put for the source at a path, which has this text, this tree and this source map.
 fn written_for(
     alloc: Global,
     file: &str,
     text: &js_text::Text,
     tree: Checked,
+    input: Option<InputMap>,
 ) -> Result<Written, Memory>
     requires { Accepted text.now (plain_file tree) }
     ensures file { IfOk result (λ written. written.file ≡ file.now) }
-    ensures text { IfOk result (λ written. IsTextOf file.now text.now (plain_file tree) written.text) }
-    ensures map { IfOk result (λ written. written.map ≡ map_for file.now text.now (plain_file tree)) }
+    ensures text { IfOk result (λ written. IsTextOf file.now text.now input (plain_file tree) written.text) }
+    ensures map { IfOk result (λ written. written.map ≡ map_for file.now text.now input (plain_file tree)) }
 {
-    let source = source_of(alloc, file, text.as_str().as_bytes())?;
+    let source = source_of(alloc, file, text.as_str().as_bytes(), input)?;
     written_of(alloc, source, tree)
 }
 
-/// The source at a path, with a copy of these bytes, whose coverage is counted.
-fn source_of(alloc: Global, file: &str, bytes: &[u8]) -> Result<Source, Memory>
-    ensures { IfOk result (λ source. source ≡ record { path = file.now; bytes = bytes.now; counted = true }) }
+/// The source at a path, with a copy of these bytes and this source map, whose coverage is counted.
+fn source_of(
+    alloc: Global,
+    file: &str,
+    bytes: &[u8],
+    input: Option<InputMap>,
+) -> Result<Source, Memory>
+    ensures { IfOk result (λ source. source ≡ record { path = file.now; bytes = bytes.now; counted = true; input = input }) }
 {
     Ok(Source {
         path: Text::from_str(alloc, file)?,
         bytes: Items::from_vec(Vec::from_slice(alloc, bytes)?),
         counted: true,
+        input,
     })
 }
 
@@ -150,8 +158,8 @@ fn written_of(alloc: Global, source: Source, tree: Checked) -> Result<Written, M
     requires counted { source.counted ≡ true }
     requires accepted { Accepted source.bytes (plain_file tree) }
     ensures file { IfOk result (λ written. written.file ≡ source.path) }
-    ensures text { IfOk result (λ written. IsTextOf source.path source.bytes (plain_file tree) written.text) }
-    ensures map { IfOk result (λ written. written.map ≡ map_for source.path source.bytes (plain_file tree)) }
+    ensures text { IfOk result (λ written. IsTextOf source.path source.bytes source.input (plain_file tree) written.text) }
+    ensures map { IfOk result (λ written. written.map ≡ map_for source.path source.bytes source.input (plain_file tree)) }
 {
     let made = text_for(alloc, &source, tree)?;
     Ok(written_as(source, made))

@@ -9,7 +9,7 @@ use Rattle.path_globs.specs.Specifier.{resolve}
 use Rattle.cov_base.specs.Store.{Held}
 use Rattle.cov_sources.specs.declared.source.Source.{Source}
 use Rattle.cov_run.specs.Asked.{Asked, is_among, with_found, with_path, with_specifiers}
-use Rattle.cov_run.specs.Loaded.{Loads, all, failed, no_file, one_more, passed_over, refused, source_of, too_long, too_many, wanting}
+use Rattle.cov_run.specs.Loaded.{Loads, all, bad_map, failed, map_failed, map_too_long, no_file, one_more, passed_over, refused, source_of, too_long, too_many, wanting}
 use Rattle.cov_run.specs.Laws.{LoadsApart}
 use Rattle.cov_run.specs.Meant.{AreApart}
 use Rattle.cov_sim.specs.Headline.{IsElsewhere}
@@ -114,15 +114,18 @@ module _ (told : Option Held) (exclude : List (List ℕ)) where
       let same : sources ≡ last = cc in
       let whole : known ≡ read = f.known ∙ append-nil read in
       subst AreApart same (are_apart among (subst Distinct whole f.distinct))
-  loads_apart {read = read} outcome last is (one_more {known = known} {waiting = waiting} {path = path} {bytes = bytes} {tree = tree} good room rest) among f =
-      loads_apart outcome last is rest (among_more (source_of exclude path bytes) among)
+  loads_apart {read = read} outcome last is (one_more {known = known} {waiting = waiting} {path = path} {bytes = bytes} {tree = tree} {input = input} good has room rest) among f =
+      loads_apart outcome last is rest (among_more (source_of exclude path bytes input) among)
       (fine_specifiers (read ++ path ∷ []) path (record { known = known; waiting = waiting }) (required_of (mentions_file tree)) (moved read known waiting path f))
   loads_apart {read = read} outcome last is (passed_over {known = known} {waiting = waiting} {path = path} none_there rest) among f =
       loads_apart outcome last is rest (among_passed path among) (moved read known waiting path f)
   loads_apart outcome last is (no_file nothing) among f = absurd cc
   loads_apart outcome last is (too_long long) among f = absurd cc
   loads_apart outcome last is (refused bad) among f = absurd cc
-  loads_apart outcome last is (too_many good full) among f = absurd cc
+  loads_apart outcome last is (map_too_long good faulty) among f = absurd cc
+  loads_apart outcome last is (bad_map good faulty other) among f = absurd cc
+  loads_apart outcome last is (map_failed good) among f = absurd cc
+  loads_apart outcome last is (too_many good has full) among f = absurd cc
   loads_apart outcome last is failed among f = absurd cc
   loads_apart outcome last is wanting among f = absurd cc
 

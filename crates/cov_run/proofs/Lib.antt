@@ -1,6 +1,7 @@
 pub mod Apart
 pub mod Counting
 pub mod Endings
+pub mod Inputs
 pub mod Known
 pub mod Loading
 pub mod Meaning

@@ -1,16 +1,17 @@
 -- What one file more makes of a loading.
 use Rattle.std.proofs.Common.{◌≡◌, ℕ, ◌<◌, ◌≤◌, Bool, List, [], ◌∷◌, ◌++◌, length, Option, None, Some, refl, sym, ap, ◌∙◌, subst, arith}
-use Rattle.std.specs.Prelude.{Result, Ok, Err, Vec, MatchOption, option_map}
+use Rattle.std.specs.Prelude.{Result, Ok, Err, OnOk, IfErr, Vec, MatchOption, option_map}
 use Rattle.std.specs.declared.alloc.Global.{Global}
 use Rattle.js_tree.specs.Plain.{File}
 use Rattle.js_scopes.specs.Accepted.{Accepted}
+use Rattle.source_map.specs.declared.place.Parts.{Parts}
 use Rattle.cov_base.specs.Store.{Held, ReadsHeld}
 use Rattle.cov_sources.specs.Refused.{HasOnly}
 use Rattle.cov_sources.specs.declared.source.Source.{Source}
 use Rattle.cov_run.specs.Asked.{Asked, before_others, with_file}
 use Rattle.cov_run.specs.Loaded as L
-use Rattle.cov_run.specs.Loaded.{Holds, Loads, is_counted, most, source_of}
-use Rattle.cov_run.specs.private.Step.{Goes, IsUnfound, IsFileFault, PassesTo, Stops, StopsAt}
+use Rattle.cov_run.specs.Loaded.{Holds, HasInput, Loads, is_counted, most, source_of}
+use Rattle.cov_run.specs.private.Step.{Goes, GoesWith, IsUnfound, IsFileFault, IsInputFault, PassesTo, Stops, StopsAt, StopsWith}
 use Rattle.cov_run.specs.declared.fault.LoadFault.{LoadFault}
 use Rattle.cov_run.specs.declared.fault.LoadFault.TheVariants as fault
 
@@ -28,36 +29,68 @@ pub stops_entry : (told : Option Held) (exclude : List (List ℕ)) (entry : List
     Loads told exclude [] (before_others entry asked) (Err why)
 stops_entry told exclude entry asked fault.NoFile is = L.no_file is
 stops_entry told exclude entry asked (fault.Refused at why) is = absurd is
+stops_entry told exclude entry asked (fault.BadMap at why) is = absurd is
 stops_entry told exclude entry asked (fault.TooLong at) is = absurd is
 stops_entry told exclude entry asked fault.TooManyFiles is = absurd is
 stops_entry told exclude entry asked (fault.ReadFault at) is = subst (λ path. Loads told exclude [] (before_others entry asked) (Err (fault.ReadFault path))) (sym is) L.failed
 stops_entry told exclude entry asked fault.Memory is = L.wanting
 
 -- a file that was read isn't loaded
-pub stops_file : (exclude : List (List ℕ)) (path bytes : List ℕ) (sources : List Source) (asked : Asked) (why : LoadFault) → IsFileFault why path bytes →
-    Stops exclude path bytes sources asked why
-stops_file exclude path bytes sources asked fault.NoFile is told holds = absurd is
-stops_file exclude path bytes sources asked (fault.Refused at why) is told holds =
+pub stops_file : (told : Option Held) (exclude : List (List ℕ)) (path bytes : List ℕ) (sources : List Source) (asked : Asked) (why : LoadFault) → IsFileFault why path bytes →
+    StopsWith told exclude path bytes sources asked why
+stops_file told exclude path bytes sources asked fault.NoFile is holds = absurd is
+stops_file told exclude path bytes sources asked (fault.Refused at why) is holds =
     subst (λ place. Loads told exclude sources (before_others path asked) (Err (fault.Refused place why))) (sym is.0)
     (L.refused {bytes = bytes} (record { held = holds; within = is.1; refused = is.2; no_source = is.3 }))
-stops_file exclude path bytes sources asked (fault.TooLong at) is told holds =
+stops_file told exclude path bytes sources asked (fault.BadMap at why) is holds = absurd is
+stops_file told exclude path bytes sources asked (fault.TooLong at) is holds =
     subst (λ place. Loads told exclude sources (before_others path asked) (Err (fault.TooLong place))) (sym is.0)
     (L.too_long {bytes = bytes} (record { held = holds; longer = is.1 }))
-stops_file exclude path bytes sources asked fault.TooManyFiles is told holds = absurd is
-stops_file exclude path bytes sources asked (fault.ReadFault at) is told holds = absurd is
-stops_file exclude path bytes sources asked fault.Memory is told holds = L.wanting
+stops_file told exclude path bytes sources asked fault.TooManyFiles is holds = absurd is
+stops_file told exclude path bytes sources asked (fault.ReadFault at) is holds = absurd is
+stops_file told exclude path bytes sources asked fault.Memory is holds = L.wanting
 
+-- a source that is next, with these bytes and this tree
 module _ (exclude : List (List ℕ)) (path bytes : List ℕ) (sources : List Source) (asked : Asked) (tree : File) (accepted : Accepted bytes tree) (only : HasOnly bytes tree) where
-  -- it is one too many
-  pub stops_full : most ≤ length sources → Stops exclude path bytes sources asked fault.TooManyFiles
-  stops_full full told holds = L.too_many {bytes = bytes} {tree = tree} (record { held = holds; accepted = accepted; only = only }) full
+  -- what stands beside it isn't read as its map
+  pub stops_map : (told : Option Held) (why : LoadFault) → IsInputFault told why path → StopsWith told exclude path bytes sources asked why
+  stops_map told fault.NoFile is holds = absurd is
+  stops_map told (fault.Refused at why) is holds = absurd is
+  stops_map told (fault.BadMap at why) is holds =
+      subst (λ place. Loads told exclude sources (before_others path asked) (Err (fault.BadMap place why))) (sym is.0)
+      (L.bad_map {bytes = bytes} {tree = tree} (record { held = holds; accepted = accepted; only = only }) is.2 is.1)
+  stops_map told (fault.TooLong at) is holds =
+      subst (λ place. Loads told exclude sources (before_others path asked) (Err (fault.TooLong place))) (sym is.0)
+      (L.map_too_long {bytes = bytes} {tree = tree} (record { held = holds; accepted = accepted; only = only }) is.1)
+  stops_map told fault.TooManyFiles is holds = absurd is
+  stops_map told (fault.ReadFault at) is holds =
+      subst (λ place. Loads told exclude sources (before_others path asked) (Err (fault.ReadFault place))) (sym is)
+      (L.map_failed {bytes = bytes} {tree = tree} (record { held = holds; accepted = accepted; only = only }))
+  stops_map told fault.Memory is holds = L.wanting
 
-  -- it is loaded
-  pub goes_on : (more : List Source) (later : Asked) → length sources < most → more ≡ sources ++ source_of exclude path bytes ∷ [] → later ≡ with_file path tree asked →
-      Goes exclude path bytes sources asked more later
-  goes_on more later room is asks told outcome holds loads =
-      L.one_more {bytes = bytes} {tree = tree} (record { held = holds; accepted = accepted; only = only }) room
-      (subst (λ s. Loads told exclude s (with_file path tree asked) outcome) is (subst (λ a. Loads told exclude more a outcome) asks loads))
+  module _ (input : Option Parts) where
+    -- it is one too many
+    pub stops_full : most ≤ length sources → Stops exclude path bytes input sources asked fault.TooManyFiles
+    stops_full full told holds has = L.too_many {bytes = bytes} {tree = tree} {input = input} (record { held = holds; accepted = accepted; only = only }) has full
+
+    -- it is loaded
+    pub goes_on : (more : List Source) (later : Asked) → length sources < most → more ≡ sources ++ source_of exclude path bytes input ∷ [] → later ≡ with_file path tree asked →
+        Goes exclude path bytes input sources asked more later
+    goes_on more later room is asks told outcome holds has loads =
+        L.one_more {bytes = bytes} {tree = tree} {input = input} (record { held = holds; accepted = accepted; only = only }) has room
+        (subst (λ s. Loads told exclude s (with_file path tree asked) outcome) is (subst (λ a. Loads told exclude more a outcome) asks loads))
+
+-- with what stands beside it, a file is one of the sources, or why it isn't
+module _ (told : Option Held) (exclude : List (List ℕ)) (path own bytes : List ℕ) (input : Option Parts) (sources : List Source) (asked : Asked) (same : own ≡ path) (has : HasInput told path input) where
+  pub goes_with : {T : Type 0} (answer : Result T LoadFault) (more : List Source) (later : Asked) → OnOk answer (Goes exclude own bytes input sources asked more later) →
+      OnOk answer (GoesWith told exclude path bytes sources asked more later)
+  goes_with (Ok done) more later goes = λ outcome holds loads. (subst (λ p. Goes exclude p bytes input sources asked more later) same goes) told outcome holds has loads
+  goes_with (Err why) more later goes = tt
+
+  pub stops_with : {T : Type 0} (answer : Result T LoadFault) → IfErr answer (λ why. Stops exclude own bytes input sources asked why) →
+      IfErr answer (λ why. StopsWith told exclude path bytes sources asked why)
+  stops_with (Ok done) stops = tt
+  stops_with (Err why) stops = λ holds. (subst (λ p. Stops exclude p bytes input sources asked why) same stops) told holds has
 
 -- a file that isn't held is passed over
 passes_one : (told : Option Held) (asked : Asked) (path : List ℕ) → Holds told path None → PassesTo told (before_others path asked) asked
@@ -94,9 +127,9 @@ pub next_is : (old new : Asked) (found : Option (List ℕ)) {path : List ℕ} �
 next_is old new found says is = subst (λ found. MatchOption found ((old.waiting ≡ []) × (new ≡ old)) (λ path. old ≡ before_others path new)) is says
 
 -- what is put to the sources is the source at the path
-pub is_source : (exclude : List (List ℕ)) (path bytes : List ℕ) (at contents word : List ℕ) (counted : Bool) → at ≡ path → contents ≡ bytes → word ≡ at → counted ≡ is_counted exclude word →
-    (◌≡◌) {A = Source} (record { path = at; bytes = contents; counted = counted }) (source_of exclude path bytes)
-is_source exclude path bytes at contents word counted there has reads counts = rw (counts, reads, there, has) refl
+pub is_source : (exclude : List (List ℕ)) (path bytes : List ℕ) (input : Option Parts) (contents word : List ℕ) (counted : Bool) → contents ≡ bytes → word ≡ path → counted ≡ is_counted exclude word →
+    (◌≡◌) {A = Source} (record { path = path; bytes = contents; counted = counted; input = input }) (source_of exclude path bytes input)
+is_source exclude path bytes input contents word counted has reads counts = rw (counts, reads, has) refl
 
 -- a fault is the same in an answer of another type
 pub same_fault : {T U : Type 0} (one other : LoadFault) → (◌≡◌) {A = Result T LoadFault} (Err one) (Err other) → (◌≡◌) {A = Result U LoadFault} (Err one) (Err other)

@@ -16,7 +16,7 @@ use Rattle.cov_object.specs.declared.file.FileCoverage.{FileCoverage}
 use Rattle.cov_expected.specs.Expected.{expected}
 use Rattle.cov_sources.specs.declared.source.Source.{Source}
 use Rattle.cov_sim.specs.Counting.{RunsAs, itself, again}
-use Rattle.cov_sim.specs.Headline.{AreReplaced, no_file, kept, by_tree, file_of, Headline, HavePaths, zeros}
+use Rattle.cov_sim.specs.Headline.{AreReplaced, no_file, kept, by_tree, file_of, Headline, HavePaths, zeros, HaveTexts}
 use Rattle.cov_sim.specs.Instrumented.{instrumented, instrumented_as, is_left_out, mapped_text, AreInstrumented, none, passed_over, counted, left, made}
 use Rattle.cov_sim.specs.declared.instrumented.Instrumented.{Instrumented}
 use Rattle.cov_run.specs.Exec.{program_of}
@@ -61,8 +61,8 @@ one_file source file is sources rest more = by file.tree refl is.runs
     }
     by t same (again not_left reads) = record {
       files = file_of source is.tree true ∷ more.files;
-      texts = instrumented_as source (mapped_text source.path source.bytes is.tree) ∷ more.texts;
-      instrumented = counted is.tree (mapped_text source.path source.bytes is.tree) is.accepted (made not_left (record { tree = t; accepted = reads.accepted; same = reads.same })) more.instrumented;
+      texts = instrumented_as source (mapped_text source.path source.bytes source.input is.tree) ∷ more.texts;
+      instrumented = counted is.tree (mapped_text source.path source.bytes source.input is.tree) is.accepted (made not_left (record { tree = t; accepted = reads.accepted; same = reads.same })) more.instrumented;
       are = (is_file source is.tree true is.accepted not_left, more.are);
       stand = subst (λ f. AreReplaced (source ∷ sources) (file_of source is.tree true ∷ more.files) (f ∷ rest)) (sym (stands source file is.path is.uncounted same)) (by_tree is.tree t is.accepted not_left reads.same more.stand);
     }
@@ -93,13 +93,18 @@ have_paths [] replaced zips apart = tt
 have_paths (s ∷ sources) [] zips apart = absurd zips
 have_paths (s ∷ sources) (f ∷ rest) zips apart = ((zips.0.utf8, apart.0, apart.1), have_paths sources rest zips.1 apart.2)
 
+have_texts : (sources : List Source) (replaced : List program.Source) → AllZip IsCounting sources replaced → HaveTexts sources
+have_texts [] replaced zips = tt
+have_texts (s ∷ sources) [] zips = absurd zips
+have_texts (s ∷ sources) (f ∷ rest) zips = (zips.0.texts, have_texts sources rest zips.1)
+
 -- ---- the law
 
 pub sessions_mean : Headline → SessionsMean
 sessions_mean headline sources steps run apart some within counts =
     let all = all_files sources counts.files counts.counting in
     let first = some_world sources all.files steps some all.are in
-    let same = (headline sources all.texts (have_paths sources counts.files counts.counting apart) all.instrumented).trees all.files counts.files all.stand (first_path sources) steps within first.0 first.1 in
+    let same = (headline sources all.texts (have_paths sources counts.files counts.counting apart) (have_texts sources counts.files counts.counting) all.instrumented).trees all.files counts.files all.stand (first_path sources) steps within first.0 first.1 in
     let one : same.0 ≡ run = run_is (sym same.1 ∙ counts.is) in
     let coverage = expected (zeros sources all.files) first.0.log first.0.started in (
       coverage,

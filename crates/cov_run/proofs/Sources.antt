@@ -5,18 +5,19 @@ use Rattle.std.specs.List.{AllZip}
 use Rattle.js_tree.specs.Plain.{File}
 use Rattle.js_meaning.specs.Program as program
 use Rattle.js_meaning.specs.World.{PlainRun, plain}
+use Rattle.source_map.specs.declared.place.Parts.{Parts}
 use Rattle.cov_base.specs.Store.{Held}
 use Rattle.cov_sources.specs.declared.source.Source.{Source}
 use Rattle.cov_run.specs.Asked.{Asked}
 use Rattle.cov_run.specs.Exec.{AreRead, IsFirst, IsRead, program_of}
 use Rattle.cov_run.specs.Laws.{AllAreRead, BeginsWithEntry, OneRun}
-use Rattle.cov_run.specs.Loaded.{IsSource, Loads, Loaded, all, failed, no_file, one_more, passed_over, refused, source_of, too_long, too_many, wanting}
+use Rattle.cov_run.specs.Loaded.{IsSource, Loads, Loaded, all, bad_map, failed, map_failed, map_too_long, no_file, one_more, passed_over, refused, source_of, too_long, too_many, wanting}
 use Rattle.cov_run.specs.declared.fault.LoadFault.{LoadFault}
 
 -- a source that was accepted, as a file
-file_of : {told : Option Held} (exclude : List (List ℕ)) (path bytes : List ℕ) {tree : File} → IsSource told path bytes tree → (file : program.Source) × IsRead (source_of exclude path bytes) file
-file_of exclude path bytes {tree = tree} good = (
-  record { path = path; tree = tree; counted = (source_of exclude path bytes).counted },
+file_of : {told : Option Held} (exclude : List (List ℕ)) (path bytes : List ℕ) (input : Option Parts) {tree : File} → IsSource told path bytes tree → (file : program.Source) × IsRead (source_of exclude path bytes input) file
+file_of exclude path bytes input {tree = tree} good = (
+  record { path = path; tree = tree; counted = (source_of exclude path bytes input).counted },
   record { path = refl; accepted = good.accepted; only = good.only; counted = refl },
 )
 
@@ -30,14 +31,17 @@ module _ (told : Option Held) (exclude : List (List ℕ)) where
   reads_all : {sources : List Source} {asked : Asked} (outcome : Result (List Source) LoadFault) (last : List Source) → outcome ≡ Ok last →
       Loads told exclude sources asked outcome → AreRead sources → AreRead last
   reads_all outcome last is all read = subst AreRead (let same = is in cc) read
-  reads_all outcome last is (one_more {sources = sources} {path = path} {bytes = bytes} good room rest) read =
-      let file = file_of exclude path bytes good in
-      reads_all outcome last is rest (read.0 ++ file.0 ∷ [], both_zip IsRead sources read.0 (source_of exclude path bytes) file.0 read.1 file.1)
+  reads_all outcome last is (one_more {sources = sources} {path = path} {bytes = bytes} {input = input} good has room rest) read =
+      let file = file_of exclude path bytes input good in
+      reads_all outcome last is rest (read.0 ++ file.0 ∷ [], both_zip IsRead sources read.0 (source_of exclude path bytes input) file.0 read.1 file.1)
   reads_all outcome last is (passed_over none rest) read = reads_all outcome last is rest read
   reads_all outcome last is (no_file none) read = absurd cc
   reads_all outcome last is (too_long long) read = absurd cc
   reads_all outcome last is (refused bad) read = absurd cc
-  reads_all outcome last is (too_many good full) read = absurd cc
+  reads_all outcome last is (map_too_long good faulty) read = absurd cc
+  reads_all outcome last is (bad_map good faulty other) read = absurd cc
+  reads_all outcome last is (map_failed good) read = absurd cc
+  reads_all outcome last is (too_many good has full) read = absurd cc
   reads_all outcome last is failed read = absurd cc
   reads_all outcome last is wanting read = absurd cc
 
@@ -45,22 +49,28 @@ module _ (told : Option Held) (exclude : List (List ℕ)) where
   keeps_first : (entry : List ℕ) {sources : List Source} {asked : Asked} (outcome : Result (List Source) LoadFault) (last : List Source) → outcome ≡ Ok last →
       Loads told exclude sources asked outcome → IsFirst entry sources → IsFirst entry last
   keeps_first entry outcome last is all first = subst (IsFirst entry) (let same = is in cc) first
-  keeps_first entry outcome last is (one_more {sources = []} {path = path} {bytes = bytes} good room rest) first = absurd first
-  keeps_first entry outcome last is (one_more {sources = s ∷ sources} {path = path} {bytes = bytes} good room rest) first = keeps_first entry outcome last is rest first
+  keeps_first entry outcome last is (one_more {sources = []} {path = path} {bytes = bytes} good has room rest) first = absurd first
+  keeps_first entry outcome last is (one_more {sources = s ∷ sources} {path = path} {bytes = bytes} good has room rest) first = keeps_first entry outcome last is rest first
   keeps_first entry outcome last is (passed_over none rest) first = keeps_first entry outcome last is rest first
   keeps_first entry outcome last is (no_file none) first = absurd cc
   keeps_first entry outcome last is (too_long long) first = absurd cc
   keeps_first entry outcome last is (refused bad) first = absurd cc
-  keeps_first entry outcome last is (too_many good full) first = absurd cc
+  keeps_first entry outcome last is (map_too_long good faulty) first = absurd cc
+  keeps_first entry outcome last is (bad_map good faulty other) first = absurd cc
+  keeps_first entry outcome last is (map_failed good) first = absurd cc
+  keeps_first entry outcome last is (too_many good has full) first = absurd cc
   keeps_first entry outcome last is failed first = absurd cc
   keeps_first entry outcome last is wanting first = absurd cc
 
   first_is_entry : (entry : List ℕ) (outcome : Result (List Source) LoadFault) (last : List Source) → outcome ≡ Ok last → Loaded told entry exclude outcome → IsFirst entry last
-  first_is_entry entry outcome last is (one_more good room rest) = keeps_first entry outcome last is rest refl
+  first_is_entry entry outcome last is (one_more good has room rest) = keeps_first entry outcome last is rest refl
   first_is_entry entry outcome last is (no_file none) = absurd cc
   first_is_entry entry outcome last is (too_long long) = absurd cc
   first_is_entry entry outcome last is (refused bad) = absurd cc
-  first_is_entry entry outcome last is (too_many good full) = absurd cc
+  first_is_entry entry outcome last is (map_too_long good faulty) = absurd cc
+  first_is_entry entry outcome last is (bad_map good faulty other) = absurd cc
+  first_is_entry entry outcome last is (map_failed good) = absurd cc
+  first_is_entry entry outcome last is (too_many good has full) = absurd cc
   first_is_entry entry outcome last is failed = absurd cc
   first_is_entry entry outcome last is wanting = absurd cc
 

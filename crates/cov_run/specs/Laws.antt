@@ -6,6 +6,7 @@ use Rattle.js_coverage.specs.Coverage.{IsCoverage}
 use Rattle.js_value.specs.State.{Heap}
 use Rattle.cov_object.specs.declared.file.FileCoverage.{FileCoverage}
 use Rattle.cov_sim.specs.Refused.{IsFirstRefused}
+use Rattle.source_map.specs.declared.fault.MapFault.{MapFault}
 use Rattle.cov_base.specs.Store.{Held}
 use Rattle.cov_sources.specs.declared.source.Source.{Source}
 use Rattle.cov_sources.specs.declared.why.Why.{Why}
@@ -22,6 +23,7 @@ pub data Agree : Result (List Source) LoadFault → Result (List Source) LoadFau
   no_file : Agree (Err fault.NoFile) (Err fault.NoFile)
   refused : {path : List ℕ} {one other : Why} → Agree (Err (fault.Refused path one)) (Err (fault.Refused path other))
   too_long : {path : List ℕ} → Agree (Err (fault.TooLong path)) (Err (fault.TooLong path))
+  bad_map : {path : List ℕ} {why : MapFault} → Agree (Err (fault.BadMap path why)) (Err (fault.BadMap path why))
   too_many : Agree (Err fault.TooManyFiles) (Err fault.TooManyFiles)
   one_failed : {path : List ℕ} {other : Result (List Source) LoadFault} → Agree (Err (fault.ReadFault path)) other
   other_failed : {path : List ℕ} {one : Result (List Source) LoadFault} → Agree one (Err (fault.ReadFault path))

@@ -1,5 +1,5 @@
 -- What a run of sources that count their own coverage prints, how it ends, and the coverage that it leaves.
-use Rattle.std.specs.Prelude.{◌≡◌, ℕ, false, List, [], ◌∷◌, Some}
+use Rattle.std.specs.Prelude.{◌≡◌, ℕ, false, List, [], ◌∷◌, Some, IfSome}
 use Rattle.std.specs.List.{AllZip}
 use Rattle.std.specs.Str.{IsUtf8}
 use Rattle.js_tree.specs.Plain.{File}
@@ -8,6 +8,7 @@ use Rattle.js_coverage.specs.Coverage.{IsCoverage}
 use Rattle.js_meaning.specs.declared.outcome.End.{End}
 use Rattle.js_meaning.specs.Program as program
 use Rattle.js_meaning.specs.World.{PlainRun, plain}
+use Rattle.source_map.specs.Kept.{HasTexts}
 use Rattle.cov_object.specs.declared.file.FileCoverage.{FileCoverage}
 use Rattle.cov_sources.specs.Refused.{HasOnly}
 use Rattle.cov_sources.specs.declared.source.Source.{Source}
@@ -20,6 +21,7 @@ use Rattle.cov_run.specs.declared.fault.SessionFault.TheVariants as fault
 -- a source as the file of a program that runs in its place: where it is counted its instrumented text, read again, and else its own tree
 pub record IsCounting (source : Source) (file : program.Source) : Type 0 where
   pub utf8 : IsUtf8 source.path
+  pub texts : IfSome source.input HasTexts
   pub path : file.path ≡ source.path
   pub tree : File
   pub accepted : Accepted source.bytes tree

@@ -1,5 +1,6 @@
 use cov_sources::Why;
 use items::Text;
+use source_map::MapFault;
 use std::alloc::{AllocError, AllocFailed};
 use thiserror::Error;
 
@@ -17,7 +18,15 @@ pub enum LoadFault {
         /// Why it is none.
         why: Why,
     },
-    /// The file at this path has more bytes than a source may have.
+    /// What stands beside a source at this path is no source map: the first in the order of loading.
+    #[error("bad map: {}", .path.as_str())]
+    BadMap {
+        /// The path.
+        path: Text,
+        /// Why it is none: it isn't too long, and memory isn't wanting.
+        fault: MapFault,
+    },
+    /// The file at this path has more bytes than a source, or a source map, may have.
     #[error("too long: {}", .path.as_str())]
     TooLong {
         /// The path.

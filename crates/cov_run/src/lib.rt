@@ -2,6 +2,7 @@
 #![tactic(auto)]
 
 mod fault;
+mod input;
 mod laws;
 mod loader;
 mod queue;
@@ -12,6 +13,6 @@ mod sessions;
 pub use fault::{LoadFault, SessionFault};
 pub use laws::{programs, sessions_mean};
 pub use loader::load;
-pub use reading::read_source;
+pub use reading::{read_mapped, read_source};
 pub use run::{Ran, exec};
 pub use sessions::{SessionEnd, session};

@@ -7,9 +7,10 @@ ghost use Rattle.cov_sources.specs.Refused.{HasOnly};
 ghost use Rattle.cov_run.specs.Asked.{before_others};
 ghost use Rattle.cov_run.specs.Loaded as spec;
 ghost use Rattle.cov_run.specs.declared.fault.LoadFault.TheVariants.{ReadFault};
-ghost use Rattle.cov_run.specs.private.Step.{Goes, GoesOn, Finds, Stops, StopsAt, IsUnfound, IsFileFault, IsReadFailure};
+ghost use Rattle.cov_run.specs.private.Step.{Goes, GoesOn, GoesWith, Finds, Stops, StopsAt, StopsWith, IsUnfound, IsFileFault, IsReadFailure};
 
 use crate::fault::LoadFault;
+use crate::input::input_at;
 use crate::queue::Queue;
 use cov_base::{Failed, Store};
 use cov_sources::{Source, Sources, Why, accept};
@@ -17,6 +18,7 @@ use items::{Items, Text};
 use js_scopes::Checked;
 use js_text::TextFault;
 use path_globs::matches;
+use source_map::InputMap;
 use std::alloc::Global;
 
 /// How many sources a program may have.
@@ -24,12 +26,13 @@ const MOST_SOURCES: usize = 1024;
 
 /// Loads the sources of the program that begins with the file at the path `entry`: that file, and
 /// then, breadth first and in the order of each file's text, every file that `require` is called
-/// for by a string and that the store holds. Each file is read once. A file is counted where none of
-/// the patterns `exclude` stands for its path.
+/// for by a string and that the store holds. Each file is read once, and after it the source map beside
+/// it, which may be missing. A file is counted where none of the patterns `exclude` stands for its path.
 ///
 /// # Errors
 /// The first that comes of what each file in this order gives: its read, its length, its acceptance,
-/// the number of sources. Want of memory may come at any point.
+/// the read, the length and the form of its map, which are told with the map's path, the number of
+/// sources. Want of memory may come at any point.
 pub fn load<S: Store>(
     alloc: Global,
     store: &mut S,
@@ -52,7 +55,7 @@ pub fn load<S: Store>(
     'files: loop {
         match next_held(alloc, store, &mut queue) {
             Ok(Some((path, bytes))) => {
-                match take(alloc, path, bytes, exclude, &mut queue, &mut sources) {
+                match take(alloc, store, path, bytes, exclude, &mut queue, &mut sources) {
                     Ok(()) => {}
                     Err(fault) => return Err(fault),
                 }
@@ -76,7 +79,7 @@ fn take_entry<S: Store>(
     ensures goes { OnOk result (GoesOn (S.held store.old) (map string_bytes exclude.now) entry.now queue.old sources.new.items queue.new) }
     ensures some { OnOk result (0 < length sources.new.items) }
     ensures fault { IfErr result (λ fault. spec.Loads (S.held store.old) (map string_bytes exclude.now) [] (before_others entry.now queue.old) (Err fault)) }
-    ensures failed { (at : List ℕ) → result ≡ Err (ReadFault at) → S.fails store.old at store.new }
+    ensures failed { (at : List ℕ) → result ≡ Err (ReadFault at) → (before : S) × S.fails before at store.new }
     ensures rose { (at : List ℕ) → result ≡ Err (ReadFault at) → Rose (S.read_faults store.old) (S.read_faults store.new) }
     ensures later { S.read_faults store.old ≤ S.read_faults store.new }
     ensures unchanged { S.held store.new ≡ S.held store.old }
@@ -84,7 +87,7 @@ fn take_entry<S: Store>(
 {
     let path = Text::from_str(alloc, entry)?;
     match bytes_at(alloc, store, entry) {
-        Ok(bytes) => take(alloc, path, bytes, exclude, queue, sources),
+        Ok(bytes) => take(alloc, store, path, bytes, exclude, queue, sources),
         Err(fault) => Err(fault),
     }
 }
@@ -148,36 +151,64 @@ fn next_held<S: Store>(
     }
 }
 
-/// Takes the file at a path, which has these bytes, to the sources, and what it asks for to the queue.
-fn take(
+/// Takes the file at a path, which has these bytes, to the sources, with the source map beside it, and what it asks for to the queue.
+fn take<S: Store>(
     alloc: Global,
+    store: &mut S,
     path: Text,
     bytes: Vec<u8>,
     exclude: &[String],
     queue: &mut Queue,
     sources: &mut Sources,
 ) -> Result<(), LoadFault>
-    ensures goes { OnOk result (Goes (map string_bytes exclude.now) path bytes.items sources.old.items queue.old sources.new.items queue.new) }
+    ensures goes { OnOk result (GoesWith (S.held store.old) (map string_bytes exclude.now) path bytes.items sources.old.items queue.old sources.new.items queue.new) }
     ensures more { OnOk result ((length sources.old.items < spec.most) × (length sources.new.items ≡ length sources.old.items + 1)) }
-    ensures fault { IfErr result (λ fault. Stops (map string_bytes exclude.now) path bytes.items sources.old.items queue.old fault) }
-    ensures read { (at : List ℕ) → result ≡ Err (ReadFault at) → ⊥ }
+    ensures fault { IfErr result (λ fault. StopsWith (S.held store.old) (map string_bytes exclude.now) path bytes.items sources.old.items queue.old fault) }
+    ensures failed { (at : List ℕ) → result ≡ Err (ReadFault at) → (before : S) × S.fails before at store.new }
+    ensures rose { (at : List ℕ) → result ≡ Err (ReadFault at) → Rose (S.read_faults store.old) (S.read_faults store.new) }
+    ensures later { S.read_faults store.old ≤ S.read_faults store.new }
+    ensures unchanged { S.held store.new ≡ S.held store.old }
+    ensures puts { S.put_faults store.new ≡ S.put_faults store.old }
 {
     match tree_of(alloc, path, bytes.as_slice()) {
-        Ok((path, tree)) => {
-            if sources.len() >= MOST_SOURCES {
-                return Err(LoadFault::TooManyFiles);
-            }
-            queue.ask_all(alloc, path.as_str(), tree.requires_())?;
-            let counted = is_counted(path.as_str(), exclude);
-            sources.push(Source {
-                path,
-                bytes: Items::from_vec(bytes),
-                counted,
-            })?;
-            Ok(())
-        }
         Err(fault) => Err(fault),
+        Ok((path, tree)) => match input_at(alloc, store, path.as_str()) {
+            Err(fault) => Err(fault),
+            Ok(input) => keep(alloc, path, bytes, tree, input, exclude, queue, sources),
+        },
     }
+}
+
+/// Takes a source to the others, and what it asks for to the queue.
+fn keep(
+    alloc: Global,
+    path: Text,
+    bytes: Vec<u8>,
+    tree: Checked,
+    input: Option<InputMap>,
+    exclude: &[String],
+    queue: &mut Queue,
+    sources: &mut Sources,
+) -> Result<(), LoadFault>
+    requires accepted { Accepted bytes.items (plain_file tree) }
+    requires only { HasOnly bytes.items (plain_file tree) }
+    ensures goes { OnOk result (Goes (map string_bytes exclude.now) path bytes.items input sources.old.items queue.old sources.new.items queue.new) }
+    ensures more { OnOk result ((length sources.old.items < spec.most) × (length sources.new.items ≡ length sources.old.items + 1)) }
+    ensures fault { IfErr result (λ fault. Stops (map string_bytes exclude.now) path bytes.items input sources.old.items queue.old fault) }
+    ensures read { (at : List ℕ) → result ≡ Err (ReadFault at) → ⊥ }
+{
+    if sources.len() >= MOST_SOURCES {
+        return Err(LoadFault::TooManyFiles);
+    }
+    queue.ask_all(alloc, path.as_str(), tree.requires_())?;
+    let counted = is_counted(path.as_str(), exclude);
+    sources.push(Source {
+        path,
+        bytes: Items::from_vec(bytes),
+        counted,
+        input,
+    })?;
+    Ok(())
 }
 
 /// The tree of the file at a path, and the path again.

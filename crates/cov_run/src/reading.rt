@@ -9,12 +9,14 @@ ghost use Rattle.cov_run.specs.declared.fault.LoadFault.TheVariants.{ReadFault};
 ghost use Rattle.cov_run.specs.private.Step.{IsFileFault};
 
 use crate::fault::LoadFault;
+use crate::input::input_at;
 use crate::loader::bytes_at;
 use cov_base::Store;
 use cov_sources::{Why, accept};
 use items::Text;
 use js_scopes::Checked;
 use js_text::TextFault;
+use source_map::InputMap;
 use std::alloc::Global;
 
 /// The text and the tree of the source at a path, by itself, or why there is none.
@@ -38,6 +40,33 @@ pub fn read_source<S: Store>(
     match bytes_at(alloc, store, path) {
         Ok(bytes) => accepted_of(alloc, path, bytes),
         Err(fault) => Err(fault),
+    }
+}
+
+/// The same, with the source map beside the file, which may be missing.
+///
+/// # Errors
+/// As those of `read_source`, and then the first that comes of the read, the length and the form of its map, told with the map's path.
+pub fn read_mapped<S: Store>(
+    alloc: Global,
+    store: &mut S,
+    path: &str,
+) -> Result<(js_text::Text, Checked, Option<InputMap>), LoadFault>
+    ensures source { IfOk result (λ source. spec.IsSource (S.held store.old) path.now source.0 (plain_file source.1)) }
+    ensures input { IfOk result (λ source. spec.HasInput (S.held store.old) path.now source.2) }
+    ensures fault { IfErr result (λ fault. spec.IsUnloaded (S.held store.old) path.now fault) }
+    ensures failed { (at : List ℕ) → result ≡ Err (ReadFault at) → (before : S) × S.fails before at store.new }
+    ensures rose { (at : List ℕ) → result ≡ Err (ReadFault at) → Rose (S.read_faults store.old) (S.read_faults store.new) }
+    ensures later { S.read_faults store.old ≤ S.read_faults store.new }
+    ensures unchanged { S.held store.new ≡ S.held store.old }
+    ensures puts { S.put_faults store.new ≡ S.put_faults store.old }
+{
+    match read_source(alloc, store, path) {
+        Err(fault) => Err(fault),
+        Ok((text, tree)) => match input_at(alloc, store, path) {
+            Err(fault) => Err(fault),
+            Ok(input) => Ok((text, tree, input)),
+        },
     }
 }
 

@@ -13,7 +13,7 @@ ghost use Rattle.cov_run.specs.declared.fault.SessionFault.TheVariants.{NotCover
 
 use crate::fault::SessionFault;
 use cov_object::CoverageMap;
-use cov_sim::{counting_tree, simulating};
+use cov_sim::{counting_tree, look_at_input, simulating};
 use cov_sources::{Source, Sources, Why, accept};
 use items::{Items, Memory, Text};
 use js_machine::{DataFault, Machine, MachineFault, prelude};
@@ -149,6 +149,7 @@ fn file_of(alloc: Global, source: &Source) -> Result<Result<ProgramFile, Why>, M
     match accept(alloc, bytes)? {
         Ok((_, tree)) => {
             let path = Text::from_str(alloc, source.path.as_str())?;
+            look_at_input(source);
             let tree = counting_tree(alloc, source, tree)?;
             Ok(Ok(ProgramFile {
                 path,

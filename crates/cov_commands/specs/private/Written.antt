@@ -3,7 +3,8 @@ use Rattle.std.specs.Prelude.{◌≡◌, ℕ, List, map, Option, None, Some, Res
 use Rattle.js_tree.specs.Plain.{File}
 use Rattle.cov_base.specs.Store.{Held, PutsAt}
 use Rattle.cov_base.specs.declared.failed.Failed.{Failed}
-use Rattle.cov_run.specs.Loaded.{IsSource}
+use Rattle.source_map.specs.declared.place.Parts.{Parts}
+use Rattle.cov_run.specs.Loaded.{HasInput, IsSource}
 use Rattle.cov_commands.specs.Instrument.{Each, IsTextOf, map_below, map_for, path_below}
 use Rattle.cov_commands.specs.declared.written.Written.{Written}
 
@@ -11,9 +12,11 @@ use Rattle.cov_commands.specs.declared.written.Written.{Written}
 pub record IsWritten (told : Option Held) (written : Written) : Type 0 where
   pub bytes : List ℕ
   pub tree : File
+  pub input : Option Parts
   pub source : IsSource told written.file bytes tree
-  pub is : IsTextOf written.file bytes tree written.text
-  pub map : written.map ≡ map_for written.file bytes tree
+  pub has : HasInput told written.file input
+  pub is : IsTextOf written.file bytes input tree written.text
+  pub map : written.map ≡ map_for written.file bytes input tree
 
 abbrev pub files_of : List Written → List (List ℕ)
 files_of list = map (λ written. written.file) list

@@ -1,6 +1,6 @@
 -- Why a file ends the work.
 use Rattle.std.proofs.Common.{subst, arith}
-use Rattle.cov_run.specs.Loaded.{wanting}
+use Rattle.cov_run.specs.Loaded.{map_wanting}
 use Rattle.cov_commands.specs.Instrument.{HoldsSource, here, too_many}
 use Rattle.cov_commands.proofs.Texts.{written_source}
 use Rattle.cov_commands.proofs.written.add.Goals as goal
@@ -18,5 +18,5 @@ returns-then-len-ge-MOST_SOURCES-clause-stops g c = λ files.
 pub returns-clause-stops : goal.returns-clause-stops
 returns-clause-stops g c = elim c.match-push.branch [
   | in-Ok-push w ↦ rw w.result-is tt
-  | in-Err-push w ↦ rw w.result-is (λ files. here wanting)
+  | in-Err-push w ↦ rw w.result-is (λ files. here map_wanting)
 ]

@@ -2,16 +2,12 @@
 use Rattle.std.proofs.Common.{None, Ok, map, string_bytes, subst}
 use Rattle.std.proofs.lemmas.Result.{err_from_is_err_and}
 use Rattle.cov_run.specs.Loaded.{wanting}
-use Rattle.cov_run.specs.declared.fault.LoadFault.TheVariants.{ReadFault}
 use Rattle.cov_run.specs.private.Step.{Finds}
-use Rattle.cov_run.proofs.Loading.{none_left, same_fault}
+use Rattle.cov_run.proofs.Loading.{none_left}
 use Rattle.cov_run.proofs.loader.load.Goals as goal
 
 pub returns-in_err-queue-clause-fault : goal.returns-in_err-queue-clause-fault
 returns-in_err-queue-clause-fault g c = let p = err_from_is_err_and c.from_residual.result c.from_residual.ensures.1 in rw (p.1, p.2) wanting
-
-pub returns-in-Err-clause-failed : goal.returns-in-Err-clause-failed
-returns-in-Err-clause-failed g c = λ at is. (c.args.store.now, c.in-Err.ensures.failed at (same_fault c.in-Err.fault (ReadFault at) is))
 
 pub returns-in-Ok-None-clause-sources : goal.returns-in-Ok-None-clause-sources
 returns-in-Ok-None-clause-sources g c =

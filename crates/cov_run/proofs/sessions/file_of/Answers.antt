@@ -13,6 +13,7 @@ returns-in-Ok-clause-file c =
     let path : c.in_ok-path-in-Ok.path ≡ c.args.source.now.path = search rules in
     record {
       utf8 = subst IsUtf8 c.as_str.ensures c.as_str.utf8;
+      texts = c.look_at_input.ensures;
       path = path;
       tree = plain_file c.in-Ok.tree;
       accepted = subst (λ bytes. Accepted bytes (plain_file c.in-Ok.tree)) bytes
