@@ -63,4 +63,3 @@ pub mod ShortSpells
 pub mod ShortNames
 pub mod ShortTexts
 pub mod Short
-pub mod Worked

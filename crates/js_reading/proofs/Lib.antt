@@ -5,4 +5,3 @@ pub mod levels
 pub mod placed
 pub mod refusing
 pub mod sentences
-pub mod worked

@@ -1,7 +1,0 @@
-pub mod Worked
-pub mod WorkedExpressions
-pub mod WorkedFound
-pub mod WorkedGoals
-pub mod WorkedPlaces
-pub mod WorkedStatements
-pub mod WorkedStops
