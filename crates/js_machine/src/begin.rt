@@ -31,7 +31,7 @@ use crate::statements::{
     begin_statements, begin_try,
 };
 use crate::steps::{NOWHERE, undefined};
-use items::{Items, Memory};
+use items::{Boxed, Items, Memory};
 use js_code::{Code, ListKind, Node};
 use js_heap::Env;
 use js_host::Iteration;
@@ -164,8 +164,8 @@ pub fn begin(
         }
         Task::Broken { label, broken } => Ok(broken_at(code, words, label, broken)),
         Task::Take { round, value, rest } => {
-            let target = round.target;
-            Ok(begin_take(code.node(target), round, value, rest))
+            let target = round.get().target;
+            begin_take(alloc, code.node(target), round, value, rest)
         }
         Task::BindAll {
             function,
@@ -415,11 +415,17 @@ fn continued(
 }
 
 // A loop with `in` or `of` after a `continue` with a label.
-fn continued_pass(code: &Code, words: &Words, label: Name, round: Loop, rest: Iteration) -> Control
+fn continued_pass(
+    code: &Code,
+    words: &Words,
+    label: Name,
+    round: Boxed<Loop>,
+    rest: Boxed<Iteration>,
+) -> Control
     ensures means { (p : Sources) → control_comp (view_of p code.now.nodes) result ≡ task_comp (view_of p code.now.nodes) (Task.ContinuedPass label round rest) }
     ensures less { (w : Weights) → control_weight w result < w round.target + 2 }
 {
-    if stands_in(code, words, round.labels.as_slice(), &label) {
+    if stands_in(code, words, round.get().labels.as_slice(), &label) {
         drop(label);
         Control::Do(Action::GoThrough { round, rest })
     } else {

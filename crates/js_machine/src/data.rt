@@ -3,7 +3,7 @@
 use crate::parts::{
     Form, Gathering, Keying, Labels, Loop, MemberKey, Reference, Referring, Scoped, Title,
 };
-use items::Items;
+use items::{Boxed, Items};
 use js_heap::Env;
 use js_host::Iteration;
 use js_meaning::Completion;
@@ -123,17 +123,17 @@ pub enum Action {
     },
     /// The next key or item of a loop.
     GoThrough {
-        round: Loop,
-        rest: Iteration,
+        round: Boxed<Loop>,
+        rest: Boxed<Iteration>,
     },
     /// The keys of a value, for a loop.
     GoThroughKeys {
-        round: Loop,
+        round: Boxed<Loop>,
         value: Value,
     },
     /// The items of a value, for a loop.
     GoThroughItems {
-        round: Loop,
+        round: Boxed<Loop>,
         value: Value,
     },
     /// A call of the function with its code here gets its environment; an arrow function has no `this`.
@@ -196,7 +196,7 @@ pub enum Entry {
         labels: Labels,
         env: Env,
         inner: Env,
-        rest: Iteration,
+        rest: Boxed<Iteration>,
     },
 }
 
@@ -391,8 +391,8 @@ pub enum Task {
     /// A loop with `in` or `of` after a `continue` with a label.
     ContinuedPass {
         label: Name,
-        round: Loop,
-        rest: Iteration,
+        round: Boxed<Loop>,
+        rest: Boxed<Iteration>,
     },
     /// A statement with a label, after a `break` with one.
     Broken {
@@ -401,9 +401,9 @@ pub enum Task {
     },
     /// A value for the target of a loop.
     Take {
-        round: Loop,
+        round: Boxed<Loop>,
         value: Value,
-        rest: Iteration,
+        rest: Boxed<Iteration>,
     },
     /// The parameters of the function with its code here take their arguments.
     BindAll {
@@ -642,13 +642,13 @@ pub enum Pending {
     /// What a loop goes through.
     Subject {
         keys: bool,
-        round: Loop,
+        round: Boxed<Loop>,
     },
     /// A target that takes its value.
     Taken {
-        round: Loop,
+        round: Boxed<Loop>,
         inner: Env,
-        rest: Iteration,
+        rest: Boxed<Iteration>,
     },
     /// The value of a `switch`.
     Switch {
@@ -712,8 +712,8 @@ pub enum Frame {
     },
     /// A loop with `in` or `of` round its body.
     AfterPass {
-        round: Loop,
-        rest: Iteration,
+        round: Boxed<Loop>,
+        rest: Boxed<Iteration>,
     },
     /// A label round its statement.
     AfterLabel {

@@ -50,7 +50,7 @@ pub fn enter(alloc: Global, code: &Code, state: &mut State, entry: Entry) -> Res
             env,
             inner,
             rest,
-        } => Ok(begin_pass(
+        } => begin_pass(
             alloc,
             code.node(statement),
             statement,
@@ -58,7 +58,7 @@ pub fn enter(alloc: Global, code: &Code, state: &mut State, entry: Entry) -> Res
             env,
             inner,
             rest,
-        )),
+        ),
         Entry::Call {
             code: number,
             environment,

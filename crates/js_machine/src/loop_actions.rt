@@ -11,7 +11,7 @@ ghost use Rattle.js_machine.specs.private.Weight.{Weights, control_weight};
 use crate::data::{Action, Control, Task};
 use crate::member_actions::halted;
 use crate::parts::Loop;
-use items::Memory;
+use items::{Boxed, Memory};
 use js_heap::Heap;
 use js_host::{Iteration, iterate_items, iterate_keys, take_next};
 use js_meaning::Completion;
@@ -23,15 +23,18 @@ use std::alloc::Global;
 pub fn go_through(
     alloc: Global,
     heap: &Heap,
-    round: Loop,
-    rest: Iteration,
+    round: Boxed<Loop>,
+    rest: Boxed<Iteration>,
 ) -> Result<Control, Memory>
     ensures means { IfOk result (λ control. (t : View) → control_comp t control
         ≡ takes_next_of t round (next_of (heap_of heap.now) (plain_iteration rest))) }
     ensures less { IfOk result (λ control. (w : Weights) → control_weight w control < w round.target + 1) }
 {
-    match take_next(alloc, heap, rest)? {
-        Some((value, rest)) => Ok(Control::Begin(Task::Take { round, value, rest })),
+    match take_next(alloc, heap, rest.into_inner())? {
+        Some((value, rest)) => {
+            let rest = Boxed::new(alloc, rest)?;
+            Ok(Control::Begin(Task::Take { round, value, rest }))
+        }
         None => {
             drop(round);
             Ok(Control::Give(Completion::Normal(Value::Primitive(Primitive::Undefined))))
@@ -44,26 +47,35 @@ pub fn go_through(
 pub fn go_through_keys(
     alloc: Global,
     heap: &Heap,
-    round: Loop,
+    round: Boxed<Loop>,
     value: Value,
 ) -> Result<Control, Memory>
     ensures means { IfOk result (λ control. (t : View) → control_comp t control
         ≡ goes_through t round (Keys value (keys_of (heap_of heap.now) value))) }
     ensures less { IfOk result (λ control. (w : Weights) → control_weight w control < w round.target + 2) }
 {
-    let rest = iterate_keys(alloc, heap, value)?;
+    let keys = iterate_keys(alloc, heap, value)?;
+    let rest = Boxed::new(alloc, keys)?;
     Ok(Control::Do(Action::GoThrough { round, rest }))
 }
 
 /// The items of a value are found.
 #[inline(never)]
-pub fn go_through_items(heap: &Heap, round: Loop, value: &Value) -> Result<Control, Memory>
+pub fn go_through_items(
+    alloc: Global,
+    heap: &Heap,
+    round: Boxed<Loop>,
+    value: &Value,
+) -> Result<Control, Memory>
     ensures means { IfOk result (λ control. (t : View) → control_comp t control
         ≡ M.or_halt (iterated (heap_of heap.now) value.now) (goes_through t round)) }
     ensures less { IfOk result (λ control. (w : Weights) → control_weight w control < w round.target + 2) }
 {
     match iterate_items(heap, value) {
-        Ok(rest) => Ok(Control::Do(Action::GoThrough { round, rest })),
+        Ok(items) => {
+            let rest = Boxed::new(alloc, items)?;
+            Ok(Control::Do(Action::GoThrough { round, rest }))
+        }
         Err(halt) => {
             drop(round);
             halted(halt)

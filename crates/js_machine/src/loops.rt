@@ -13,11 +13,12 @@ use crate::data::{Action, Control, Entry, Frame, Pending, Task};
 use crate::frames::push;
 use crate::parts::{Form, Labels, Loop, Referring, Scoped, Title};
 use crate::statements::bind_to;
-use items::Memory;
+use items::{Boxed, Memory};
 use js_code::Node;
 use js_heap::Env;
 use js_host::Iteration;
 use js_value::{Complaint, Value};
+use std::alloc::Global;
 
 /// The test of a loop begins: without one there is always another turn.
 #[inline(never)]
@@ -101,16 +102,22 @@ pub fn begin_again(
 
 /// The target of a loop takes the next value.
 #[inline(never)]
-pub fn begin_take(node: &Node, round: Loop, value: Value, rest: Iteration) -> Control
-    ensures means { (t : View) → t.name round.target ≡ name_of node.now →
-        control_comp t result ≡ M.takes t.program (as_for_target (build t.tree node.now)) round.env.index value (λ inner. pass t round inner (plain_iteration rest)) }
-    ensures less { (w : Weights) → control_weight w result < node_weight w node.now }
+pub fn begin_take(
+    alloc: Global,
+    node: &Node,
+    round: Boxed<Loop>,
+    value: Value,
+    rest: Boxed<Iteration>,
+) -> Result<Control, Memory>
+    ensures means { IfOk result (λ control. (t : View) → t.name round.target ≡ name_of node.now →
+        control_comp t control ≡ M.takes t.program (as_for_target (build t.tree node.now)) round.env.index value (λ inner. pass t round inner (plain_iteration rest))) }
+    ensures less { IfOk result (λ control. (w : Weights) → control_weight w control < node_weight w node.now) }
 {
-    let env = round.env;
+    let env = round.get().env;
     match node {
         Node::TargetDeclaration { kind, .. } => {
-            let name = round.target;
-            Control::Do(Action::EnterLoop {
+            let name = round.get().target;
+            Ok(Control::Do(Action::EnterLoop {
                 next: Scoped::Target {
                     kind: *kind,
                     name,
@@ -119,14 +126,17 @@ pub fn begin_take(node: &Node, round: Loop, value: Value, rest: Iteration) -> Co
                     rest,
                 },
                 env,
-            })
+            }))
         }
-        Node::TargetExpression { expression } => Control::Begin(Task::Refer {
-            place: *expression,
-            env,
-            next: Referring::Take { value, round, rest },
-        }),
-        _ => Control::Do(Action::Throw(Complaint::NotAssignable)),
+        Node::TargetExpression { expression } => {
+            let value = Boxed::new(alloc, value)?;
+            Ok(Control::Begin(Task::Refer {
+                place: *expression,
+                env,
+                next: Referring::Take { value, round, rest },
+            }))
+        }
+        _ => Ok(Control::Do(Action::Throw(Complaint::NotAssignable))),
     }
 }
 

@@ -14,7 +14,7 @@ use crate::frames::push;
 use crate::parts::{Keying, Labels, Loop, Reference, Title};
 use crate::references::put;
 use crate::steps::{halted, undefined};
-use items::{Items, Memory};
+use items::{Boxed, Items, Memory};
 use js_data::text;
 use js_heap::Env;
 use js_host::Iteration;
@@ -234,7 +234,7 @@ pub fn key_text(alloc: Global, next: Keying, env: Env, value: &Value) -> Result<
 
 /// What a loop goes through is found.
 #[inline(never)]
-pub fn subject(keys: bool, round: Loop, value: Value) -> Control
+pub fn subject(keys: bool, round: Boxed<Loop>, value: Value) -> Control
     ensures means { (t : View) → control_comp t result ≡ pending_comp t (Pending.Subject keys round) value }
     ensures less { (w : Weights) → control_weight w result < w round.target + 3 }
 {
@@ -247,7 +247,7 @@ pub fn subject(keys: bool, round: Loop, value: Value) -> Control
 
 /// A turn of a loop whose target has taken its value.
 #[inline(never)]
-pub fn take_pass(round: Loop, inner: Env, rest: Iteration) -> Control
+pub fn take_pass(round: Boxed<Loop>, inner: Env, rest: Boxed<Iteration>) -> Control
     ensures means { (t : View) (value : Value) → control_comp t result ≡ pending_comp t (Pending.Taken round inner rest) value }
     ensures less { (w : Weights) → control_weight w result ≡ 0 }
 {
@@ -256,7 +256,7 @@ pub fn take_pass(round: Loop, inner: Env, rest: Iteration) -> Control
         target: _,
         labels,
         env,
-    } = round;
+    } = round.into_inner();
     Control::Enter(Entry::Pass {
         statement,
         labels,

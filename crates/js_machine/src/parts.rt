@@ -1,5 +1,5 @@
 // What the machine's parts are made of. Nodes of the code are told by their places, and names by the place of the node that has them.
-use items::Items;
+use items::{Boxed, Items};
 use js_heap::Env;
 use js_host::Iteration;
 use js_tree::{BinaryOperator, UpdateOperator, VariableKind};
@@ -93,9 +93,9 @@ pub enum Referring {
     },
     /// It takes the next value of a loop.
     Take {
-        value: Value,
-        round: Loop,
-        rest: Iteration,
+        value: Boxed<Value>,
+        round: Boxed<Loop>,
+        rest: Boxed<Iteration>,
     },
 }
 
@@ -122,15 +122,15 @@ pub enum Scoped {
     Subject {
         keys: bool,
         subject: usize,
-        round: Loop,
+        round: Boxed<Loop>,
     },
     /// The name of such a loop takes its next value.
     Target {
         kind: VariableKind,
         name: usize,
         value: Value,
-        round: Loop,
-        rest: Iteration,
+        round: Boxed<Loop>,
+        rest: Boxed<Iteration>,
     },
     /// The test of a `for`.
     Turn {

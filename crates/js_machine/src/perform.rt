@@ -155,7 +155,12 @@ pub fn perform(
         Action::GoThroughKeys { round, value } => {
             go_through_keys(alloc, &state.heap, round, value)
         }
-        Action::GoThroughItems { round, value } => go_through_items(&state.heap, round, &value),
+        Action::GoThroughItems { round, value } => go_through_items(
+            alloc,
+            &state.heap,
+            round,
+            &value,
+        ),
         Action::StartCall {
             this,
             function,

@@ -159,7 +159,7 @@ pub fn begin_referred(
                     rest,
                 }),
             )?;
-            Ok(put(reference, env, value))
+            Ok(put(reference, env, value.into_inner()))
         }
     }
 }

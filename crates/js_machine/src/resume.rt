@@ -11,7 +11,7 @@ use crate::frames::push;
 use crate::parts::{Labels, Loop};
 use crate::pending::go_on;
 use crate::steps::undefined;
-use items::Memory;
+use items::{Boxed, Memory};
 use js_heap::Env;
 use js_host::Iteration;
 use js_meaning::Completion;
@@ -111,7 +111,7 @@ fn after_turn(statement: usize, labels: Labels, env: Env, completion: Completion
 }
 
 // After the body of a loop with `in` or `of`.
-fn after_pass(round: Loop, rest: Iteration, completion: Completion) -> Control
+fn after_pass(round: Boxed<Loop>, rest: Boxed<Iteration>, completion: Completion) -> Control
     ensures means { (t : View) → control_comp t result ≡ frame_comp t (Frame.AfterPass round rest) completion }
     ensures less { (w : Weights) → control_weight w result < w round.target + 3 }
 {

@@ -124,7 +124,7 @@ fn loop_names(
 {
     match next {
         Scoped::For { init, .. } => init_names(alloc, code, *init),
-        Scoped::Subject { round, .. } => target_names(alloc, code, words, round.target),
+        Scoped::Subject { round, .. } => target_names(alloc, code, words, round.get().target),
         Scoped::Target { kind, name, .. } => kind_names(alloc, *kind, name_at(code, words, *name)),
         Scoped::Turn { .. } => Ok(Items::new(alloc)),
         Scoped::Update { .. } => Ok(Items::new(alloc)),

@@ -17,7 +17,7 @@ use crate::frames::push;
 use crate::lists::list_of;
 use crate::parts::{Labels, Loop, Scoped, Title};
 use crate::steps::undefined;
-use items::Memory;
+use items::{Boxed, Memory};
 use js_code::{ListKind, Node};
 use js_heap::Env;
 use js_meaning::Completion;
@@ -101,7 +101,8 @@ pub fn begin_statement(
             },
             env,
         })),
-        Node::ForIn { target, object, .. } => Ok(begin_round(
+        Node::ForIn { target, object, .. } => begin_round(
+            alloc,
             true,
             *object,
             Loop {
@@ -110,12 +111,13 @@ pub fn begin_statement(
                 labels,
                 env,
             },
-        )),
+        ),
         Node::ForOf {
             target,
             iterable,
             ..
-        } => Ok(begin_round(
+        } => begin_round(
+            alloc,
             false,
             *iterable,
             Loop {
@@ -124,7 +126,7 @@ pub fn begin_statement(
                 labels,
                 env,
             },
-        )),
+        ),
         Node::Continue { label, .. } => {
             Ok(Control::Give(Completion::Continue(copied(alloc, label)?)))
         }
@@ -173,18 +175,19 @@ pub fn begin_statement(
 }
 
 // A `for` with `in` or `of`: what it goes through is evaluated in the scope of its target.
-fn begin_round(keys: bool, subject: usize, round: Loop) -> Control
-    ensures { result ≡ Control.Do (Action.EnterLoop (Scoped.Subject keys subject round) round.env) }
+fn begin_round(alloc: Global, keys: bool, subject: usize, round: Loop) -> Result<Control, Memory>
+    ensures { IfOk result (λ control. control ≡ Control.Do (Action.EnterLoop (Scoped.Subject keys subject round) round.env)) }
 {
     let env = round.env;
-    Control::Do(Action::EnterLoop {
+    let round = Boxed::new(alloc, round)?;
+    Ok(Control::Do(Action::EnterLoop {
         next: Scoped::Subject {
             keys,
             subject,
             round,
         },
         env,
-    })
+    }))
 }
 
 /// A block before a `catch` clause begins.

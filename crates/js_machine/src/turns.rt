@@ -1,6 +1,6 @@
 // Turns of loops.
 
-ghost use Rattle.std.specs.Prelude.{◌≡◌, []};
+ghost use Rattle.std.specs.Prelude.{◌≡◌, [], IfOk};
 ghost use Rattle.js_code.specs.Node.{build};
 ghost use Rattle.js_code.specs.Part.{as_stmt};
 ghost use Rattle.js_host.specs.Iteration.{plain_iteration};
@@ -10,6 +10,7 @@ ghost use Rattle.js_machine.specs.private.Config.{View, labels_of, step_comp};
 use crate::data::{Control, Frame, Step, Task};
 use crate::parts::{Labels, Loop};
 use crate::steps::undefined;
+use items::{Boxed, Memory};
 use js_code::Node;
 use js_heap::Env;
 use js_host::Iteration;
@@ -56,10 +57,10 @@ pub fn begin_pass(
     labels: Labels,
     env: Env,
     inner: Env,
-    rest: Iteration,
-) -> Step
-    ensures { (t : View) → t.tree statement ≡ build t.tree node.now →
-        step_comp t result ≡ M.comp_pass t.program (as_stmt (build t.tree node.now)) (labels_of t labels) env.index inner.index (plain_iteration rest) }
+    rest: Boxed<Iteration>,
+) -> Result<Step, Memory>
+    ensures { IfOk result (λ step. (t : View) → t.tree statement ≡ build t.tree node.now →
+        step_comp t step ≡ M.comp_pass t.program (as_stmt (build t.tree node.now)) (labels_of t labels) env.index inner.index (plain_iteration rest)) }
 {
     match node {
         Node::ForIn { target, body, .. } => {
@@ -80,20 +81,27 @@ pub fn begin_pass(
             };
             pass_body(alloc, *body, round, inner, rest)
         }
-        _ => Step::Go(undefined()),
+        _ => Ok(Step::Go(undefined())),
     }
 }
 
 // The body of such a loop, and then the loop.
-fn pass_body(alloc: Global, body: usize, round: Loop, inner: Env, rest: Iteration) -> Step
-    ensures { result ≡ Step.Push (Frame.AfterPass round rest) (Control.Begin (Task.Execute body [] inner)) }
+fn pass_body(
+    alloc: Global,
+    body: usize,
+    round: Loop,
+    inner: Env,
+    rest: Boxed<Iteration>,
+) -> Result<Step, Memory>
+    ensures { IfOk result (λ step. step ≡ Step.Push (Frame.AfterPass round rest) (Control.Begin (Task.Execute body [] inner))) }
 {
-    Step::Push(
+    let round = Boxed::new(alloc, round)?;
+    Ok(Step::Push(
         Frame::AfterPass { round, rest },
         Control::Begin(Task::Execute {
             place: body,
             labels: Labels::new(alloc),
             env: inner,
         }),
-    )
+    ))
 }

@@ -9,6 +9,7 @@ use Rattle.js_code.specs.Part.{as_expr, as_stmt, as_exprs, as_properties, as_pro
 use Rattle.js_meaning.specs.Effects.{handle}
 use Rattle.js_meaning.specs.Scopes.{params_of}
 use Rattle.js_meaning.specs.Meaning as M
+use Rattle.js_machine.specs.declared.parts.Loop.{Loop}
 use Rattle.js_machine.specs.private.Config.{view_of, name_of, units_of, labels_of, stmt_at, again, body_comp, gathered, keyed, otherwise, pass, referred, plug}
 use Rattle.js_machine.specs.private.Weight.{place_weight}
 use Rattle.js_machine.proofs.Forms.{no_name, tested_less}
@@ -137,11 +138,11 @@ pub returns-in-Again-clause-less : goal.returns-in-Again-clause-less
 returns-in-Again-clause-less c = IfOk-weaker c.begin_again.result _ _ (λ next less. rw c.in-Again.is (omega (arith, less place_weight, lighter c.in-Again.statement c.node-in-Again.result.now c.node-in-Again.ensures.below))) c.begin_again.ensures.less
 
 pub returns-in-Take-clause-means : goal.returns-in-Take-clause-means
-returns-in-Take-clause-means c = λ p. rw c.in-Take.is (ap (plug (view_of p c.args.code.now.nodes) c.args.frames.now.items) (c.begin_take.ensures.means (view_of p c.args.code.now.nodes) (ap name_of (sym c.node-in-Take.ensures.is))
-    ∙ ap (λ x. M.takes p (as_for_target x) c.in-Take.round.env.index c.in-Take.value (λ inner. pass (view_of p c.args.code.now.nodes) c.in-Take.round inner (plain_iteration c.in-Take.rest))) (sym c.node-in-Take.ensures.read)))
+returns-in-Take-clause-means c = IfOk-weaker c.begin_take.result _ _ (λ control means p. rw c.in-Take.is (ap (plug (view_of p c.args.code.now.nodes) c.args.frames.now.items) (means (view_of p c.args.code.now.nodes) (ap (λ (r : Loop). (view_of p c.args.code.now.nodes).name r.target) (sym c.get.ensures) ∙ ap name_of (sym c.node-in-Take.ensures.is))
+    ∙ ap (λ x. M.takes p (as_for_target x) c.in-Take.round.env.index c.in-Take.value (λ inner. pass (view_of p c.args.code.now.nodes) c.in-Take.round inner (plain_iteration c.in-Take.rest))) (sym c.node-in-Take.ensures.read ∙ ap (λ (r : Loop). (view_of p c.args.code.now.nodes).tree r.target) c.get.ensures)))) c.begin_take.ensures.means
 
 pub returns-in-Take-clause-less : goal.returns-in-Take-clause-less
-returns-in-Take-clause-less c = rw c.in-Take.is (omega (arith, c.begin_take.ensures.less place_weight, lighter c.in-Take.round.target c.node-in-Take.result.now c.node-in-Take.ensures.below))
+returns-in-Take-clause-less c = IfOk-weaker c.begin_take.result _ _ (λ control less. rw c.in-Take.is (omega (arith, less place_weight, lighter c.get.result.now.target c.node-in-Take.result.now c.node-in-Take.ensures.below, ap (λ (r : Loop). place_weight r.target) c.get.ensures))) c.begin_take.ensures.less
 
 pub returns-in-BindAll-clause-means : goal.returns-in-BindAll-clause-means
 returns-in-BindAll-clause-means c = IfOk-weaker c.begin_parameters.result _ _ (λ next means p. rw c.in-BindAll.is (means (view_of p c.args.code.now.nodes) ∙ ap (plug (view_of p c.args.code.now.nodes) c.args.frames.now.items) (ap (λ x. handle (M.comp_params p (params_of (as_code x)) c.in-BindAll.env.index c.in-BindAll.arguments) (M.with_value (λ v. body_comp (view_of p c.args.code.now.nodes) c.in-BindAll.function c.in-BindAll.env.index))) (sym c.node-in-BindAll.ensures.read)))) c.begin_parameters.ensures.means

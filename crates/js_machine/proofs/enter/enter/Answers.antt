@@ -23,8 +23,8 @@ returns-in-Turn c = λ p base carries. rw c.in-Turn.is (becomes_same _ _ _ (c.be
     ∙ ap (λ x. M.comp_turn p (as_stmt x) (labels_of (view_of p c.args.code.now.nodes) c.in-Turn.labels) c.in-Turn.env.index) (sym c.node.ensures.read)))
 
 pub returns-in-Pass : goal.returns-in-Pass
-returns-in-Pass c = λ p base carries. rw c.in-Pass.is (becomes_same _ _ _ (c.begin_pass.ensures (view_of p c.args.code.now.nodes) c.node-in-Pass.ensures.read
-    ∙ ap (λ x. M.comp_pass p (as_stmt x) (labels_of (view_of p c.args.code.now.nodes) c.in-Pass.labels) c.in-Pass.env.index c.in-Pass.inner.index (plain_iteration c.in-Pass.rest)) (sym c.node-in-Pass.ensures.read)))
+returns-in-Pass c = IfOk-weaker c.begin_pass.result _ _ (λ step means p base carries. rw c.in-Pass.is (becomes_same _ _ _ (means (view_of p c.args.code.now.nodes) c.node-in-Pass.ensures.read
+    ∙ ap (λ x. M.comp_pass p (as_stmt x) (labels_of (view_of p c.args.code.now.nodes) c.in-Pass.labels) c.in-Pass.env.index c.in-Pass.inner.index (plain_iteration c.in-Pass.rest)) (sym c.node-in-Pass.ensures.read)))) c.begin_pass.ensures
 
 pub returns-in-Call : goal.returns-in-Call
 returns-in-Call c = λ p base carries. rw c.in-Call.is (becomes_same _ _ _ (c.call_function.ensures p carries.code_of))

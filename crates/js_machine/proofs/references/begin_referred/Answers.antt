@@ -3,7 +3,7 @@ use Rattle.std.proofs.Common.{refl, ap, ◌∙◌, arith}
 use Rattle.js_meaning.specs.Meaning as M
 use Rattle.js_meaning.specs.Effects.{handle}
 use Rattle.js_machine.specs.declared.data.Pending.TheVariants as pending
-use Rattle.js_machine.specs.private.Config.{pending_comp, plug, frame_comp, control_comp}
+use Rattle.js_machine.specs.private.Config.{pending_comp, plug, frame_comp, control_comp, reference_of}
 use Rattle.js_machine.proofs.references.begin_referred.Goals as goal
 
 pub returns-in-Call-clause-means : goal.returns-in-Call-clause-means
@@ -30,7 +30,7 @@ pub returns-in-Assign-clause-less : goal.returns-in-Assign-clause-less
 returns-in-Assign-clause-less c = rw c.in-Assign.is c.assign.ensures.less
 
 pub returns-in_ok-push-in-Take-clause-means : goal.returns-in_ok-push-in-Take-clause-means
-returns-in_ok-push-in-Take-clause-means c = λ t. rw c.in-Take.is (c.in_ok-push-in-Take.ensures.means t _ ∙ ap (plug t c.args.frames.now.items) (ap (λ d. handle d (M.with_value (pending_comp t (pending.Taken c.in-Take.round c.args.env c.in-Take.rest)))) (c.put.ensures.means t)))
+returns-in_ok-push-in-Take-clause-means c = λ t. rw c.in-Take.is (c.in_ok-push-in-Take.ensures.means t _ ∙ ap (plug t c.args.frames.now.items) (ap (λ d. handle d (M.with_value (pending_comp t (pending.Taken c.in-Take.round c.args.env c.in-Take.rest)))) (c.put.ensures.means t ∙ ap (M.put_value c.args.env.index (reference_of t c.args.reference)) c.into_inner.ensures)))
 
 pub returns-in_ok-push-in-Take-clause-less : goal.returns-in_ok-push-in-Take-clause-less
 returns-in_ok-push-in-Take-clause-less c = λ w. rw c.in-Take.is (omega (arith, c.in_ok-push-in-Take.ensures.weight w, c.put.ensures.less w))

@@ -6,7 +6,7 @@ use Rattle.js_meaning.specs.Effects.{handle}
 use Rattle.js_code.specs.Node.{build}
 use Rattle.js_machine.proofs.OtherForms as forms
 use Rattle.js_code.specs.Part.{as_expr, as_for_init, as_for_target, as_stmt}
-use Rattle.js_machine.specs.private.Config.{name_of, expr_if, labels_of, plug}
+use Rattle.js_machine.specs.private.Config.{name_of, expr_if, labels_of, plug, control_comp}
 use Rattle.js_machine.proofs.Forms.{returned_is}
 use Rattle.js_machine.proofs.statements.begin_statement.Goals as goal
 
@@ -42,12 +42,12 @@ returns-in-For-clause-means c = λ t named at. rw c.in-For.is (ap (plug t c.args
     M.anew (as_for_init (t.tree c.in-For.init)) inner (M.turn_if t.program (expr_if t c.in-For.test) (as_stmt x) (labels_of t c.args.labels)))))) (at ∙ ap (build t.tree) c.in-For.is)))
 
 pub returns-in-ForIn-clause-means : goal.returns-in-ForIn-clause-means
-returns-in-ForIn-clause-means c = λ t named at. rw (c.begin_round.ensures, c.in-ForIn.is) (ap (plug t c.args.frames.now.items) (ap (λ x. M.in_scope (target_scope (as_for_target (t.tree c.in-ForIn.target))) c.args.env.index (λ inner. handle (M.comp_expr t.program (as_expr (t.tree c.in-ForIn.object)) inner)
-    (M.with_value (M.goes_through_keys t.program (as_stmt x) (as_for_target (t.tree c.in-ForIn.target)) (labels_of t c.args.labels) c.args.env.index)))) (at ∙ ap (build t.tree) c.in-ForIn.is)))
+returns-in-ForIn-clause-means c = IfOk-weaker c.begin_round.result _ _ (λ control is t named at. ap (λ x. plug t c.args.frames.now.items (control_comp t x)) is ∙ rw c.in-ForIn.is (ap (plug t c.args.frames.now.items) (ap (λ x. M.in_scope (target_scope (as_for_target (t.tree c.in-ForIn.target))) c.args.env.index (λ inner. handle (M.comp_expr t.program (as_expr (t.tree c.in-ForIn.object)) inner)
+    (M.with_value (M.goes_through_keys t.program (as_stmt x) (as_for_target (t.tree c.in-ForIn.target)) (labels_of t c.args.labels) c.args.env.index)))) (at ∙ ap (build t.tree) c.in-ForIn.is)))) c.begin_round.ensures
 
 pub returns-in-ForOf-clause-means : goal.returns-in-ForOf-clause-means
-returns-in-ForOf-clause-means c = λ t named at. rw (c.begin_round-in-ForOf.ensures, c.in-ForOf.is) (ap (plug t c.args.frames.now.items) (ap (λ x. M.in_scope (target_scope (as_for_target (t.tree c.in-ForOf.target))) c.args.env.index (λ inner. handle (M.comp_expr t.program (as_expr (t.tree c.in-ForOf.iterable)) inner)
-    (M.with_value (M.goes_through_items t.program (as_stmt x) (as_for_target (t.tree c.in-ForOf.target)) (labels_of t c.args.labels) c.args.env.index)))) (at ∙ ap (build t.tree) c.in-ForOf.is)))
+returns-in-ForOf-clause-means c = IfOk-weaker c.begin_round-in-ForOf.result _ _ (λ control is t named at. ap (λ x. plug t c.args.frames.now.items (control_comp t x)) is ∙ rw c.in-ForOf.is (ap (plug t c.args.frames.now.items) (ap (λ x. M.in_scope (target_scope (as_for_target (t.tree c.in-ForOf.target))) c.args.env.index (λ inner. handle (M.comp_expr t.program (as_expr (t.tree c.in-ForOf.iterable)) inner)
+    (M.with_value (M.goes_through_items t.program (as_stmt x) (as_for_target (t.tree c.in-ForOf.target)) (labels_of t c.args.labels) c.args.env.index)))) (at ∙ ap (build t.tree) c.in-ForOf.is)))) c.begin_round-in-ForOf.ensures
 
 pub returns-in_ok-copied-in-Continue-clause-means : goal.returns-in_ok-copied-in-Continue-clause-means
 returns-in_ok-copied-in-Continue-clause-means c = λ t named at. rw (c.in-Continue.is, c.in_ok-copied-in-Continue.ensures) refl
