@@ -4,4 +4,5 @@ pub mod Outcomes
 pub mod Chains
 pub mod WriteLemmas
 pub mod KeysLemmas
+pub mod ElementLemmas
 pub mod NameLemmas

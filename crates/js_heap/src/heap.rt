@@ -7,6 +7,7 @@ ghost use Rattle.js_heap.specs.Environment.{plain_environment};
 use crate::elements::Elements;
 use crate::environment::{Binding, Environment};
 use crate::object::{ObjectRecord, Property};
+use crate::write::Write;
 use crate::{Assign, Cell, Delete, Env, Flags, ObjectKind, Set, keys, texts};
 use items::{Items, Memory};
 use js_terms::Name;
@@ -56,16 +57,16 @@ impl Drop for Heap {
 }
 
 impl Heap {
-    ghost use Rattle.std.specs.Prelude.{◌≡◌, ◌-◌, ◌^◌, ◌&&◌, [], ◌∷◌, ◌++◌, IfOk, IfSome, OnOk, OnErr, Some, None, map, option_map, length, nat_lt, pos, slice_get, if◌then◌else◌};
+    ghost use Rattle.std.specs.Prelude.{◌≡◌, ◌-◌, ◌^◌, ◌&&◌, not, [], ◌∷◌, ◌++◌, IfOk, IfSome, IfNone, OnSome, OnOk, OnErr, Some, None, map, option_map, length, nat_lt, pos, slice_get, if◌then◌else◌};
     ghost use Rattle.std.specs.Option.{option_copied};
     ghost use Rattle.js_value.specs.Numbers.{decimal_text};
-    ghost use Rattle.js_value.specs.Objects.{object_at, kind_of, is_array, next_object, new_object, new_array, own, found, get, has_property, inherits, keys, define, freeze, elements_of, with_elements, append, cut, set, set_answer, delete, delete_answer};
+    ghost use Rattle.js_value.specs.Objects.{object_at, kind_of, is_array, next_object, new_object, new_array, own, found, get, has_property, inherits, keys, define, freeze, elements_of, with_elements, append, cut, write_of, write_of_absent, set, Done, set_answer, delete, delete_answer};
     ghost use Rattle.js_value.specs.Texts.{own_of_text, keys_of_text, get_of_text, delete_of_text};
     ghost use Rattle.js_value.specs.Environments.{environment_at, place_of, next_environment, new_environment, copy_environment, declare, lookup, value_of, init, assign, assign_answer, init_name, assign_name, name_answer};
     ghost use Rattle.js_heap.specs.Object.{plain_kind, plain_set, plain_delete, property_with};
     ghost use Rattle.js_heap.specs.Environment.{plain_binding, plain_cell, plain_assign};
     ghost use Rattle.js_value.specs.Realm.{empty_heap};
-    ghost use Rattle.js_heap.specs.private.Write.{bars, seen_of};
+    ghost use Rattle.js_heap.specs.private.Write.{plain_write, Placed, bars, seen_of};
     ghost use Rattle.js_heap.specs.private.Environment.{cell_at};
     ghost use Rattle.js_heap.specs.Heap.{heap_of};
 
@@ -139,24 +140,7 @@ impl Heap {
             then slice_get (elements_of (heap_of self.now) object.index) index else None) }
         ensures property { IfSome result (λ value. get (heap_of self.now) object.index (decimal_text (pos index)) ≡ Some value.now) }
     {
-        if !self.is_array(object) || index >= 0xFFFF_FFFF {
-            return None;
-        }
-        self.element_at(object, index)
-    }
-
-    /// The element at a place, lent.
-    fn element_at(&self, object: Object, place: u64) -> Option<&Value>
-        ensures { option_copied result ≡ slice_get (elements_of (heap_of self.now) object.index) place }
-    {
-        self.elements(object).get(place as usize)
-    }
-
-    /// Whether the object is an array.
-    fn is_array(&self, object: Object) -> bool
-        ensures { result ≡ is_array (kind_of (heap_of self.now) object.index) }
-    {
-        matches!(self.kind(object), ObjectKind::Array)
+        self.record(object).element(index)
     }
 
     /// Puts more elements after those of an array. On want of memory nothing changes.
@@ -232,13 +216,29 @@ impl Heap {
             ≡ set object.index name.now value (heap_of self.old)) }
         ensures err { OnErr result (heap_of self.new ≡ heap_of self.old) }
     {
-        let barred = self.bars(object, name);
+        let write = self.write_of(object, name, &value);
         match self.objects.get_mut(object.index() as usize) {
-            Some(record) => record.set(name, value, barred),
+            Some(record) => record.set(write, name, value),
             None => {
                 drop(value);
                 Ok(Set::Done)
             }
+        }
+    }
+
+    /// Gives the element of an array at an index the value, where the array isn't frozen and has one: that writes the property of
+    /// the index's key, without the key. Else the value is given back, and nothing changes.
+    pub fn put_element(&mut self, object: Object, index: u64, value: Value) -> Option<Value>
+        ensures answer { result ≡ (if is_array (kind_of (heap_of self.old) object.index)
+            && not (object_at (heap_of self.old) object.index).frozen && nat_lt index (2 ^ 32 - 1)
+            && nat_lt index (length (elements_of (heap_of self.old) object.index)) then None else Some value) }
+        ensures kept { OnSome result (heap_of self.new ≡ heap_of self.old) }
+        ensures done { IfNone result (set_answer (heap_of self.old) object.index (decimal_text (pos index)) value ≡ Done) }
+        ensures written { IfNone result (heap_of self.new ≡ set object.index (decimal_text (pos index)) value (heap_of self.old)) }
+    {
+        match self.objects.get_mut(object.index() as usize) {
+            Some(record) => record.put_element(index, value),
+            None => Some(value),
         }
     }
 
@@ -539,15 +539,35 @@ impl Heap {
         }
     }
 
-    /// Whether the object, where it has no property of this name, inherits one that may not be written.
+    /// What a write to the object's property of this name is.
+    fn write_of(&self, object: Object, name: &Str, value: &Value) -> Write
+        ensures write { plain_write result ≡ write_of (heap_of self.now) object.index name.now value.now }
+        ensures place { Placed result name.now (object_at (heap_of self.now) object.index).properties }
+    {
+        match self.record(object).write_of_own(name, value) {
+            Some(write) => write,
+            None => self.write_of_absent(object, name),
+        }
+    }
+
+    /// What a write to a property of this name is, which the object has not itself.
+    fn write_of_absent(&self, object: Object, name: &Str) -> Write
+        ensures write { plain_write result ≡ write_of_absent (object_at (heap_of self.now) object.index)
+            (found object.index (heap_of self.now).objects (object_at (heap_of self.now) object.index).prototype name.now) name.now }
+        ensures place { Placed result name.now (object_at (heap_of self.now) object.index).properties }
+    {
+        if self.bars(object, name) || self.is_frozen(object) {
+            Write::ReadOnly
+        } else {
+            self.record(object).write_of_new(name)
+        }
+    }
+
+    /// Whether the object inherits a property of this name that may not be written.
     fn bars(&self, object: Object, name: &Str) -> bool
-        ensures { own (heap_of self.now) object.index name.now ≡ None → result
-            ≡ bars (found object.index (heap_of self.now).objects
+        ensures { result ≡ bars (found object.index (heap_of self.now).objects
             (object_at (heap_of self.now) object.index).prototype name.now) }
     {
-        if self.own(object, name).is_some() {
-            return false;
-        }
         match self.inherited(object, name) {
             Some((_, writable)) => !writable,
             None => false,

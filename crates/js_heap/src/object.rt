@@ -128,8 +128,10 @@ impl Drop for ObjectRecord {
 
 impl ObjectRecord {
     ghost use Rattle.std.specs.Prelude.{[], false, not, ◌&&◌, Some};
+    ghost use Rattle.std.specs.Option.{option_copied};
     ghost use Rattle.js_value.specs.State.{Array};
     ghost use Rattle.js_value.specs.Objects.{property_of, own_of, own_of_array};
+    ghost use Rattle.js_heap.specs.private.Object.{element_in};
     ghost use Rattle.js_heap.specs.Object.{plain_kind, plain_property, plain_object, property_with};
 
     /// An object of no elements and no other properties, which takes no memory.
@@ -195,6 +197,16 @@ impl ObjectRecord {
         match self.kind {
             ObjectKind::Array => self.own_of_array(key),
             _ => self.property(key),
+        }
+    }
+
+    /// The element of an array at an index, lent. None where this is no array or has no such element, or the number is no index.
+    pub fn element(&self, index: u64) -> Option<&Value>
+        ensures { option_copied result ≡ element_in (plain_object self.now) index }
+    {
+        match self.kind {
+            ObjectKind::Array if index < 0xFFFF_FFFF => self.elements.items.get(index as usize),
+            _ => None,
         }
     }
 

@@ -65,8 +65,9 @@ fn without_key(index: Box<IndexSet<Str>>, key: &Str) -> Box<IndexSet<Str>>
 
 impl Properties {
     ghost use Rattle.std.specs.Prelude.{OnOk, OnErr, None, position};
-    ghost use Rattle.js_value.specs.Objects.{with_property, with_value_of};
+    ghost use Rattle.js_value.specs.Objects.{with_property};
     ghost use Rattle.js_heap.specs.Object.{plain_property, plain_properties};
+    ghost use Rattle.js_heap.specs.private.Object.{with_value_at};
 
     /// No properties, which take no memory.
     pub fn none(alloc: Global) -> Properties
@@ -142,12 +143,12 @@ impl Properties {
         }
     }
 
-    /// Gives the property of this key, where there is one, the value.
-    pub fn give(&mut self, key: &Str, value: Value)
-        ensures { plain_properties self.new ≡ with_value_of key.now value (plain_properties self.old) }
+    /// Gives the property at this place, where there is one, the value.
+    pub fn put(&mut self, place: usize, value: Value)
+        ensures { plain_properties self.new ≡ with_value_at place value (plain_properties self.old) }
     {
-        match self.place_of(key) {
-            Some(place) => write_over(&mut self.items[place].value, value),
+        match self.items.get_mut(place) {
+            Some(property) => write_over(&mut property.value, value),
             None => drop(value),
         }
     }

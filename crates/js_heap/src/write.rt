@@ -1,9 +1,10 @@
 // Writes to an object's properties (ECMA-262, 10.1.9 and 10.4.2).
 
-ghost use Rattle.std.specs.Prelude.{◌≡◌, IfOk, OnOk, OnErr, length};
+ghost use Rattle.std.specs.Prelude.{◌≡◌, ℕ, List, Some, None, IfOk, OnOk, OnErr, length, if◌then◌else◌};
 ghost use Rattle.js_value.specs.Objects as spec;
+ghost use Rattle.js_value.specs.State as state;
 ghost use Rattle.js_heap.specs.Object.{plain_object, plain_set};
-ghost use Rattle.js_heap.specs.private.Write.{plain_write, write_in};
+ghost use Rattle.js_heap.specs.private.Write.{plain_write, Placed, own_write, array_write, element_write, length_write, property_write, performed};
 
 use crate::object::{ELEMENT, ObjectKind, ObjectRecord, Property, is_length};
 use items::Memory;
@@ -22,10 +23,10 @@ pub enum Set {
     BadLength,
 }
 
-/// What a write to a property is.
+/// What a write to a property is. Of one that is there and no element, its place is told.
 #[derive(Clone, Copy)]
 pub(crate) enum Write {
-    Replaces,
+    Replaces(usize),
     Adds,
     Puts(u32),
     Appends,
@@ -41,9 +42,8 @@ impl Write {
         ensures { plain_set result ≡ spec.set_by (plain_write self) }
     {
         match self {
-            Write::Replaces | Write::Adds | Write::Puts(_) | Write::Appends | Write::Cuts(_) => {
-                Set::Done
-            }
+            Write::Replaces(_) | Write::Adds | Write::Puts(_) | Write::Appends | Write::Cuts(_) =>
+                Set::Done,
             Write::ReadOnly => Set::ReadOnly,
             Write::Sparse => Set::Sparse,
             Write::BadLength => Set::BadLength,
@@ -53,7 +53,8 @@ impl Write {
 
 /// A write of an array's length (10.4.2.4), where it may be written.
 fn write_of_length(has: usize, value: &Value) -> Write
-    ensures { plain_write result ≡ spec.write_of_length has value.now }
+    ensures write { plain_write result ≡ spec.write_of_length has value.now }
+    ensures place { (key : List ℕ) (ps : List state.Property) → Placed result key ps }
 {
     let Value::Primitive(Primitive::Number(number)) = value else {
         return Write::BadLength;
@@ -66,49 +67,86 @@ fn write_of_length(has: usize, value: &Value) -> Write
 }
 
 impl ObjectRecord {
-    /// Writes a property, where `barred` tells whether the object inherits one of this key that may
-    /// not be written. On want of memory nothing changes.
-    pub fn set(&mut self, key: &Str, value: Value, barred: bool) -> Result<Set, Memory>
-        ensures answer { IfOk result (λ set. plain_set set
-            ≡ spec.set_by (write_in (plain_object self.old) barred key.now value)) }
-        ensures ok { OnOk result (plain_object self.new ≡ spec.written (plain_object self.old)
-            (write_in (plain_object self.old) barred key.now value) key.now value) }
+    ghost use Rattle.std.specs.Prelude.{option_map, IfSome};
+    ghost use Rattle.js_heap.specs.private.Object.{takes_element, with_element};
+
+    /// Does a write. On want of memory nothing changes.
+    pub fn set(&mut self, write: Write, key: &Str, value: Value) -> Result<Set, Memory>
+        ensures answer { IfOk result (λ set. plain_set set ≡ spec.set_by (plain_write write)) }
+        ensures ok { OnOk result (plain_object self.new ≡ performed (plain_object self.old) write key.now value) }
         ensures err { OnErr result (plain_object self.new ≡ plain_object self.old) }
     {
-        let write = self.write_of(key, &value, barred);
         self.perform(write, key, value)?;
         Ok(write.answer())
     }
 
-    /// What a write to a property is.
-    fn write_of(&self, key: &Str, value: &Value, barred: bool) -> Write
-        ensures { plain_write result ≡ write_in (plain_object self.now) barred key.now value.now }
+    /// A write to its own property of this key, where it has one. The key is looked up once.
+    pub fn write_of_own(&self, key: &Str, value: &Value) -> Option<Write>
+        ensures write { option_map plain_write result ≡ own_write (plain_object self.now) key.now value.now }
+        ensures place { IfSome result (λ write. Placed write key.now (plain_object self.now).properties) }
     {
-        match self.own(key) {
-            Some((_, flags)) if self.may_write(flags) => self.write_of_own(key, value),
-            Some(_) => Write::ReadOnly,
-            None if barred || self.frozen => Write::ReadOnly,
-            None => self.write_of_new(key),
+        match self.kind {
+            ObjectKind::Array => self.write_of_array(key, value),
+            _ => self.write_of_property(key),
         }
     }
 
-    /// A write to a property of its own that may be written.
-    fn write_of_own(&self, key: &Str, value: &Value) -> Write
-        ensures { plain_write result ≡ spec.write_of_own (plain_object self.now) key.now value.now }
+    /// The same of an array.
+    fn write_of_array(&self, key: &Str, value: &Value) -> Option<Write>
+        ensures write { option_map plain_write result ≡ array_write (plain_object self.now) key.now value.now }
+        ensures place { IfSome result (λ write. Placed write key.now (plain_object self.now).properties) }
     {
-        if !matches!(self.kind, ObjectKind::Array) {
-            return Write::Replaces;
-        }
         match index_of(key.as_slice()) {
-            Some(index) => Write::Puts(index),
-            None if is_length(key) => { write_of_length(self.elements.items.len(), value) }
-            None => Write::Replaces,
+            Some(index) => self.write_of_element(index),
+            None if is_length(key) => Some(self.write_of_length(value)),
+            None => self.write_of_property(key),
         }
+    }
+
+    /// A write to its element at this index, where it has one.
+    fn write_of_element(&self, index: u32) -> Option<Write>
+        ensures write { option_map plain_write result ≡ element_write (plain_object self.now) index }
+        ensures place { (key : List ℕ) → IfSome result (λ write. Placed write key (plain_object self.now).properties) }
+    {
+        if index as usize >= self.elements.items.len() {
+            return None;
+        }
+        Some(if self.frozen {
+            Write::ReadOnly
+        } else {
+            Write::Puts(index)
+        })
+    }
+
+    /// A write to its length, as an array.
+    fn write_of_length(&self, value: &Value) -> Write
+        ensures write { plain_write result ≡ length_write (plain_object self.now) value.now }
+        ensures place { (key : List ℕ) → Placed result key (plain_object self.now).properties }
+    {
+        if self.frozen {
+            Write::ReadOnly
+        } else {
+            write_of_length(self.elements.items.len(), value)
+        }
+    }
+
+    /// A write to its property of this key that is none of an array, where it has one.
+    fn write_of_property(&self, key: &Str) -> Option<Write>
+        ensures write { option_map plain_write result ≡ property_write (plain_object self.now) key.now }
+        ensures place { IfSome result (λ write. Placed write key.now (plain_object self.now).properties) }
+    {
+        let place = self.properties.place_of(key)?;
+        Some(if self.may_write(self.properties.items[place].flags) {
+            Write::Replaces(place)
+        } else {
+            Write::ReadOnly
+        })
     }
 
     /// A new property.
-    fn write_of_new(&self, key: &Str) -> Write
-        ensures { plain_write result ≡ spec.write_of_new (plain_object self.now) key.now }
+    pub fn write_of_new(&self, key: &Str) -> Write
+        ensures write { plain_write result ≡ spec.write_of_new (plain_object self.now) key.now }
+        ensures place { Placed result key.now (plain_object self.now).properties }
     {
         if !matches!(self.kind, ObjectKind::Array) {
             return Write::Adds;
@@ -122,12 +160,11 @@ impl ObjectRecord {
 
     /// Does the write. On want of memory nothing changes.
     fn perform(&mut self, write: Write, key: &Str, value: Value) -> Result<(), Memory>
-        ensures ok { OnOk result (plain_object self.new
-            ≡ spec.written (plain_object self.old) (plain_write write) key.now value) }
+        ensures ok { OnOk result (plain_object self.new ≡ performed (plain_object self.old) write key.now value) }
         ensures err { OnErr result (plain_object self.new ≡ plain_object self.old) }
     {
         match write {
-            Write::Replaces => self.properties.give(key, value),
+            Write::Replaces(place) => self.properties.put(place, value),
             Write::Adds => {
                 let property = Property::new(key, value, ELEMENT)?;
                 return self.properties.push(property);
@@ -141,5 +178,28 @@ impl ObjectRecord {
             Write::ReadOnly | Write::Sparse | Write::BadLength => drop(value),
         }
         Ok(())
+    }
+
+    /// Gives the element at this index the value, where this is an array that isn't frozen and has one; else gives the value
+    /// back.
+    pub fn put_element(&mut self, index: u64, value: Value) -> Option<Value>
+        ensures answer { result ≡ (if takes_element (plain_object self.old) index then None else Some value) }
+        ensures after { plain_object self.new ≡ with_element index value (plain_object self.old) }
+    {
+        if !self.takes_element(index) {
+            return Some(value);
+        }
+        self.elements.put(index as usize, value);
+        None
+    }
+
+    /// Whether this is an array that isn't frozen and has an element at this index.
+    fn takes_element(&self, index: u64) -> bool
+        ensures { result ≡ takes_element (plain_object self.now) index }
+    {
+        matches!(self.kind, ObjectKind::Array)
+            && !self.frozen
+            && index < 0xFFFF_FFFF
+            && index < self.elements.items.len() as u64
     }
 }

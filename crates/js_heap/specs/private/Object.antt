@@ -1,10 +1,28 @@
 -- What a call does to one object.
-use Rattle.std.specs.Prelude.{ℕ, List, ◌++◌, Some, None, take, if◌then◌else◌}
+use Rattle.std.specs.Prelude.{ℕ, zero, suc, ◌-◌, ◌^◌, nat_lt, Bool, not, ◌&&◌, List, [], ◌∷◌, ◌++◌, length, Option, Some, None, take, slice_get, slice_set, if◌then◌else◌}
 use Rattle.std.specs.Str.{bytes_eq}
 use Rattle.js_value.specs.declared.value.Value.{Value}
 use Rattle.js_value.specs.State as state
 use Rattle.js_value.specs.Key.{index_of}
-use Rattle.js_value.specs.Objects.{with_property, Delete, Deleted, IsFrozen, LeavesHole, deleted, delete_from, array_length}
+use Rattle.js_value.specs.Objects.{is_array, with_property, Delete, Deleted, IsFrozen, LeavesHole, deleted, delete_from, array_length}
+
+-- the element of an array at an index
+abbrev pub element_in : state.ObjectRecord → ℕ → Option Value
+element_in object index = if is_array object.kind && nat_lt index (2 ^ 32 - 1) then slice_get object.elements index else None
+
+-- whether there is one that may be written
+abbrev pub takes_element : state.ObjectRecord → ℕ → Bool
+takes_element object index = is_array object.kind && not object.frozen && nat_lt index (2 ^ 32 - 1) && nat_lt index (length object.elements)
+
+-- the object with another value for it, where there is
+abbrev pub with_element : ℕ → Value → state.ObjectRecord → state.ObjectRecord
+with_element index v object = if takes_element object index then record object { elements = slice_set object.elements index v } else object
+
+-- the properties with another value for the one at a place
+abbrev pub with_value_at : ℕ → Value → List state.Property → List state.Property
+with_value_at place v [] = []
+with_value_at zero v (p ∷ ps) = record p { value = v } ∷ ps
+with_value_at (suc place) v (p ∷ ps) = p ∷ with_value_at place v ps
 
 -- the object with a property defined
 abbrev pub with_defined : state.Property → state.ObjectRecord → state.ObjectRecord

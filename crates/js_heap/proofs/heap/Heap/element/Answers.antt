@@ -1,12 +1,12 @@
-use Rattle.std.proofs.Common.{◌≡◌, ◌-◌, ◌^◌, ◌<◌, true, Option, None, Some, IfSome, pos, sym, ◌∙◌, arith}
-use Rattle.std.specs.Prelude.{slice_get}
+use Rattle.std.proofs.Common.{Option, None, Some, IfSome, pos, sym, ap, ◌∙◌, ◌≡◌}
 use Rattle.std.specs.Option.{option_copied}
 use Rattle.std.specs.Borrow.{Bor}
 use Rattle.js_value.specs.declared.value.Value.{Value}
-use Rattle.js_value.specs.Objects.{is_array, kind_of, elements_of, get}
+use Rattle.js_value.specs.Objects.{object_at, get}
 use Rattle.js_value.specs.Numbers.{decimal_text}
-use Rattle.js_value.proofs.IndexLemmas.{element_got}
 use Rattle.js_heap.specs.Heap.{heap_of}
+use Rattle.js_heap.specs.private.Object.{element_in}
+use Rattle.js_heap.proofs.ElementLemmas.{element_gets}
 use Rattle.js_heap.proofs.heap.Heap.element.Goals as goal
 
 -- of a value that is lent, what holds of the value
@@ -19,6 +19,5 @@ returns-clause-property c =
     let h = heap_of c.args.self.now in
     let o = c.args.object.index in
     let n = c.args.index in
-    let small : n < 2 ^ 32 - 1 = omega arith in
-    let array : is_array (kind_of h o) ≡ true = sym c.is_array.ensures ∙ c.if-not-is_array.false in
-    lent c.element_at.result (slice_get (elements_of h o) n) (λ v. get h o (decimal_text (pos n)) ≡ Some v) c.element_at.ensures (λ v at. element_got h o n v small array at)
+    let is : option_copied c.element.result ≡ element_in (object_at h o) n = c.element.ensures ∙ ap (λ object. element_in object n) c.record.ensures in
+    lent c.element.result (element_in (object_at h o) n) (λ v. get h o (decimal_text (pos n)) ≡ Some v) is (element_gets h o n)
