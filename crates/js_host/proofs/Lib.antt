@@ -1,2 +1,3 @@
+mod ElementLemmas
 mod IterationLemmas
 mod NativeLemmas

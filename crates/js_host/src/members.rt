@@ -1,13 +1,15 @@
 // Members of values, and what operators see in objects (ECMA-262, 6.2.5.5, 6.2.5.6, 13.5.1.2, 13.5.3 and 13.10).
 
-ghost use Rattle.std.specs.Prelude.{◌≡◌, IfOk, Ok, option_map};
+ghost use Rattle.std.specs.Prelude.{◌≡◌, IfOk, Ok, IfSome, IfNone, OnSome, is_none, option_map};
 ghost use Rattle.js_value.specs.Members as spec;
 ghost use Rattle.js_value.specs.OnObjects.{or_undefined};
+ghost use Rattle.js_value.specs.Copying.{goes_on};
 ghost use Rattle.js_value.specs.Realm.{text};
 ghost use Rattle.js_heap.specs.Heap.{heap_of};
 ghost use Rattle.js_data.specs.Does.{Does};
 ghost use Rattle.js_host.specs.Halts.{HaltsAs};
 ghost use Rattle.js_host.specs.private.Coerced.{coerced};
+ghost use Rattle.js_host.specs.private.Elements.{natural, element_by, takes_by};
 ghost use Rattle.std.specs.Option.{option_copied};
 
 use crate::copying::write;
@@ -20,8 +22,38 @@ use js_value::{Complaint, Halt, Kind, Object, Place, Primitive, Str, Value, asci
 use std::alloc::Global;
 
 /// The property of a value by a key, its own or inherited, or undefined (6.2.5.5). The key is taken for a text once it is known
-/// that there are properties.
+/// that there are properties, and not at all where it tells an element of an array.
 pub fn get_member(alloc: Global, heap: &Heap, base: &Value, key: &Value) -> Result<Value, Halt>
+    ensures { Does (spec.get_member (heap_of heap.now) base.now key.now) result }
+{
+    match element_of(heap, base, key)? {
+        Some(element) => Ok(element),
+        None => get_by_key(alloc, heap, base, key),
+    }
+}
+
+/// The element of an array that a number tells.
+fn element_of(heap: &Heap, base: &Value, key: &Value) -> Result<Option<Value>, Memory>
+    ensures { IfOk result (λ element. element ≡ element_by (heap_of heap.now) base.now key.now) }
+{
+    match (base, index_by(key)) {
+        (Value::Object(array), Some(index)) => copied(heap.element(*array, index)),
+        _ => Ok(None),
+    }
+}
+
+/// The number that is at least 0, where a key is one.
+fn index_by(key: &Value) -> Option<u64>
+    ensures { result ≡ natural key.now }
+{
+    match key {
+        Value::Primitive(Primitive::Number(number)) => u64::try_from(*number).ok(),
+        _ => None,
+    }
+}
+
+/// The property of a value by a key, which is taken for a text.
+fn get_by_key(alloc: Global, heap: &Heap, base: &Value, key: &Value) -> Result<Value, Halt>
     ensures { Does (spec.get_member (heap_of heap.now) base.now key.now) result }
 {
     let key = member_key(alloc, base, key)?;
@@ -97,8 +129,38 @@ fn copied(value: Option<&Value>) -> Result<Option<Value>, Memory>
     }
 }
 
-/// Writes a member of a value (6.2.5.6). An error is what stopped it.
+/// Writes a member of a value (6.2.5.6). An error is what stopped it. The key is not taken for a text where it tells an element of
+/// an array that may be written.
 pub fn put_member(
+    alloc: Global,
+    heap: &mut Heap,
+    base: &Value,
+    key: &Value,
+    value: Value,
+) -> Result<(), Halt>
+    ensures { HaltsAs (spec.put_member base.now key.now value (heap_of heap.old)) (heap_of heap.new) result }
+{
+    match put_element(heap, base, key, value) {
+        None => Ok(()),
+        Some(value) => put_by_key(alloc, heap, base, key, value),
+    }
+}
+
+/// Gives the element of an array that a number tells the value, where there is one that may be written; else gives the value back.
+fn put_element(heap: &mut Heap, base: &Value, key: &Value, value: Value) -> Option<Value>
+    ensures answer { is_none result ≡ takes_by (heap_of heap.old) base.now key.now }
+    ensures back { IfSome result (λ back. back ≡ value) }
+    ensures kept { OnSome result (heap_of heap.new ≡ heap_of heap.old) }
+    ensures put { IfNone result (spec.put_member base.now key.now value (heap_of heap.old) ≡ goes_on (heap_of heap.new)) }
+{
+    match (base, index_by(key)) {
+        (Value::Object(array), Some(index)) => heap.put_element(*array, index, value),
+        _ => Some(value),
+    }
+}
+
+/// Writes a member of a value by a key, which is taken for a text.
+fn put_by_key(
     alloc: Global,
     heap: &mut Heap,
     base: &Value,
