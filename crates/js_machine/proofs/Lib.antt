@@ -1,4 +1,7 @@
 mod Acts
+mod Assigned
+mod AtOnce
+mod Bound
 mod Calls
 mod Carried
 mod Chosen

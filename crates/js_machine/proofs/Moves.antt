@@ -1,6 +1,8 @@
 -- Transitions, one and one after another.
 use Rattle.std.proofs.Common.{◌≡◌, ◌+◌, ◌<◌, List, [], ◌∷◌, ◌++◌, refl, sym, subst, ap, ◌∙◌, arith}
 use Rattle.js_value.specs.State.{Store}
+use Rattle.js_heap.specs.declared.heap.Heap.{Heap}
+use Rattle.js_heap.specs.Heap.{heap_of}
 use Rattle.js_meaning.specs.declared.outcome.Completion.{Completion}
 use Rattle.js_meaning.specs.Effects.{ret, exec}
 use Rattle.js_machine.specs.declared.data.Action.{Action}
@@ -15,8 +17,9 @@ use Rattle.js_machine.specs.private.Config.{View, action_comp, control_comp, fra
 use Rattle.js_machine.specs.private.Weight.{place_weight, action_weight, control_weight, frame_weight, frames_weight, task_weight}
 use Rattle.js_machine.specs.private.Frames.{ComesTo, Lighter}
 use Rattle.js_machine.specs.private.Moves.{Here, here, work, Leads, Rests, IsAt, rest_control}
-use Rattle.js_machine.specs.private.State.{Held, held, store_in, Becomes}
+use Rattle.js_machine.specs.private.State.{Held, held, store_in, Becomes, Turns}
 use Rattle.js_machine.proofs.Plug.{plug_push, plug_becomes, frames_weight-push}
+use Rattle.js_machine.proofs.Stores.{heap_becomes}
 
 pub leads_none : (t : View) (a : Here) → Leads t a a
 leads_none t a = record { same = λ base inside n. refl }
@@ -36,6 +39,29 @@ pub begins_lighter : (fs0 fs : List Frame) (at next : Control) (task : Task) (s 
 begins_lighter fs0 fs at next task s u is less =
     let a : control_weight place_weight at ≡ task_weight place_weight task = ap (control_weight place_weight) is in
     omega (arith, a, less)
+
+-- what it stands for is done at once
+pub moves_at_once : (t : View) (fs : List Frame) (at next : Control) (task : Task) (s : State) (h : Heap) →
+    at ≡ control.Begin task → Turns (task_comp t task) s.heap (control_comp t next) h → Leads t (here fs at s) (here fs next (record s { heap = h }))
+moves_at_once t fs at next task s h is turns = record {
+  same = λ base inside n.
+      ap (λ x. exec inside n (plug t fs (control_comp t x)) (store_in base s)) is
+      ∙ plug_becomes t fs (task_comp t task) (store_in base s) (control_comp t next) (store_in base (record s { heap = h }))
+      (heap_becomes (task_comp t task) (control_comp t next) s h base turns) inside n;
+}
+
+pub lessens_at_once : (fs : List Frame) (at next : Control) (task : Task) (s u : State) →
+    at ≡ control.Begin task → control_weight place_weight next < task_weight place_weight task → work (here fs next u) < work (here fs at s)
+lessens_at_once fs at next task s u is less =
+    let w : control_weight place_weight at ≡ task_weight place_weight task = ap (control_weight place_weight) is in
+    omega (arith, w, less)
+
+-- it isn't done at once, and begins: nothing was done for it before
+pub begins_after : (t : View) (fs0 fs : List Frame) (at next : Control) (task : Task) (s : State) (h : Heap) →
+    at ≡ control.Begin task → heap_of h ≡ heap_of s.heap → ComesTo t fs0 (task_comp t task) fs next → Leads t (here fs0 at s) (here fs next (record s { heap = h }))
+begins_after t fs0 fs at next task s h is same comes =
+    let e : held (record s { heap = h }) ≡ held s = ap (λ x. record (held s) { heap = x }) same in
+    subst (λ (x : Held). Leads t (here fs0 at s) (record { frames = fs; control = next; state = x })) (sym e) (begins t fs0 fs at next task s is comes)
 
 -- a completion goes to the frame on top
 pub resumes : (t : View) (fs0 rest fs : List Frame) (at next : Control) (frame : Frame) (completion : Completion) (s : State) →

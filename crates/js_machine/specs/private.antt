@@ -1,4 +1,5 @@
 -- What the contracts of private functions name: no reader has to believe it.
+pub mod AtOnce
 pub mod Carries
 pub mod Config
 pub mod Frames

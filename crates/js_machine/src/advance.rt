@@ -7,6 +7,7 @@ ghost use Rattle.js_machine.specs.private.Config.{View, view_of, step_comp, cont
 ghost use Rattle.js_machine.specs.private.Weight.{Weights, control_weight, frames_weight, step_weight};
 ghost use Rattle.js_machine.specs.private.Moves.{here, Rests};
 
+use crate::at_once::at_once;
 use crate::begin::begin;
 use crate::data::{Control, Frame, Rest, Step};
 use crate::names::Words;
@@ -49,7 +50,13 @@ pub fn advance(
     let mut at = control;
     'transitions: loop {
         match at {
-            Control::Begin(task) => at = begin(alloc, code, words, frames, task)?,
+            Control::Begin(task) => match at_once(alloc, code, words, &mut state.heap, &task)? {
+                Some(control) => {
+                    drop(task);
+                    at = control;
+                }
+                None => at = begin(alloc, code, words, frames, task)?,
+            },
             Control::Give(completion) => match frames.pop() {
                 None => return Ok(Rest::Completed(completion)),
                 Some(frame) => at = resume(alloc, frames, frame, completion)?,

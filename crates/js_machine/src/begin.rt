@@ -1,8 +1,6 @@
 // The parts of the code begin, each by the node at its place.
 
 ghost use Rattle.std.specs.Prelude.{◌≡◌, ◌<◌, ◌≤◌, ◌+◌, ◌*◌, IfOk};
-ghost use Rattle.js_code.specs.Code.{reader};
-ghost use Rattle.js_code.specs.Part.{as_expr_if, as_stmt_if};
 ghost use Rattle.js_meaning.specs.Meaning.{comp_expr_if, comp_stmt_if};
 ghost use Rattle.js_meaning.specs.Program.{Sources};
 ghost use Rattle.js_machine.specs.private.Config.{View, view_of, expr_or, stmt_or, task_comp, control_comp};
@@ -16,7 +14,7 @@ use crate::data::{Action, Control, Frame, Task};
 use crate::expressions::begin_expression;
 use crate::frames::push;
 use crate::functions::{begin_body, begin_param, begin_parameters, begin_params};
-use crate::lists::list_of;
+use crate::lists::{list_of, there};
 use crate::literals::{
     begin_key, begin_keyed, begin_list, begin_properties, begin_property, begin_template,
     begin_template_part,
@@ -194,18 +192,6 @@ pub fn begin(
             }))
         }
         Task::Within { next, env } => begin_within(frames, next, env),
-    }
-}
-
-// The place, if there is a part at it.
-fn there(code: &Code, place: usize) -> Option<usize>
-    ensures expr { (p : Sources) → as_expr_if (reader code.now.nodes place) ≡ expr_or (view_of p code.now.nodes) result }
-    ensures stmt { (p : Sources) → as_stmt_if (reader code.now.nodes place) ≡ stmt_or (view_of p code.now.nodes) result }
-    ensures weight { clause_weight place_weight result ≤ place_weight place }
-{
-    match code.node(place) {
-        Node::Missing => None,
-        _ => Some(place),
     }
 }
 

@@ -52,3 +52,10 @@ pub fn label_first(alloc: Global, label: usize, others: &Labels) -> Result<Label
     labels.extend_from_slice(others.as_slice())?;
     Ok(Items::from_vec(labels))
 }
+
+/// Labels once more.
+pub fn copy_labels(alloc: Global, labels: &Labels) -> Result<Labels, Memory>
+    ensures { IfOk result (λ copy. copy ≡ labels.now) }
+{
+    Ok(Items::from_vec(Vec::from_slice(alloc, labels.as_slice())?))
+}

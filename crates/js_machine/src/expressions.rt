@@ -266,8 +266,8 @@ fn begin_unary(
     }
 }
 
-// The operator that an assignment performs.
-fn operator_of(operator: AssignmentOperator) -> Option<BinaryOperator>
+/// The operator that an assignment performs.
+pub fn operator_of(operator: AssignmentOperator) -> Option<BinaryOperator>
     ensures { result ≡ operator_told operator }
 {
     match operator {

@@ -108,8 +108,8 @@ pub fn begin_param(
     }
 }
 
-// The argument at a place, undefined where there is none.
-fn argument_at(arguments: &Items<Value>, place: usize) -> Result<Value, Memory>
+/// The argument at a place, undefined where there is none.
+pub fn argument_at(arguments: &Items<Value>, place: usize) -> Result<Value, Memory>
     ensures { IfOk result (λ value. value ≡ M.first_or_undefined (dropped place arguments.now)) }
 {
     let values = arguments.as_slice();

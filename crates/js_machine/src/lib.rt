@@ -2,9 +2,12 @@
 #![tactic(auto)]
 
 mod advance;
+mod assignments;
+mod at_once;
 mod begin;
 mod built_ins;
 mod call_actions;
+mod choices;
 mod clauses;
 mod copies;
 mod data;
@@ -23,8 +26,11 @@ mod member_actions;
 mod name_actions;
 mod names;
 mod opening;
+mod operand_calls;
+mod operands;
 mod operator_actions;
 mod operators;
+mod parameters;
 mod parts;
 mod pending;
 mod perform;

@@ -53,6 +53,13 @@ impl Words {
             nameless: Nameless { name: nameless },
         })
     }
+
+    /// The empty name.
+    pub fn nameless(&self) -> &Name
+        ensures { result.now ≡ [] }
+    {
+        &self.nameless.name
+    }
 }
 
 /// The name of the node at a place: the empty one where it has none.

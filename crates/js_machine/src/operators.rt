@@ -168,8 +168,8 @@ fn update_number(
     }
 }
 
-// The new number or the old one.
-fn chosen(prefix: bool, new: i64, old: i64) -> Value
+/// The new number or the old one.
+pub fn chosen(prefix: bool, new: i64, old: i64) -> Value
     ensures { result ≡ M.number_value (if prefix then new else old) }
 {
     if prefix {
@@ -308,8 +308,8 @@ pub fn next_param(rest: usize, arguments: Items<Value>, next: usize, env: Env) -
     })
 }
 
-// The place of the next argument, if there is one more.
-fn next_place(arguments: &Items<Value>, place: usize) -> usize
+/// The place of the next argument, if there is one more.
+pub fn next_place(arguments: &Items<Value>, place: usize) -> usize
     ensures { dropped result arguments.now ≡ M.rest_of (dropped place arguments.now) }
 {
     if place < arguments.len() {

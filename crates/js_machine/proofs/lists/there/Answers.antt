@@ -4,7 +4,7 @@ use Rattle.js_code.specs.Code.{reader}
 use Rattle.js_code.specs.Node.{build}
 use Rattle.js_code.specs.Part.{as_expr, as_stmt, as_expr_if, as_stmt_if}
 use Rattle.js_machine.proofs.OtherNodes as other
-use Rattle.js_machine.proofs.begin.there.Goals as goal
+use Rattle.js_machine.proofs.lists.there.Goals as goal
 
 pub returns-in-Missing-clause-expr : goal.returns-in-Missing-clause-expr
 returns-in-Missing-clause-expr c = λ p. ap as_expr_if (c.node.ensures.read ∙ ap (build (reader c.args.code.now.nodes)) c.in-Missing.is)

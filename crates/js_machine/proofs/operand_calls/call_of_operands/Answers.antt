@@ -1,0 +1,10 @@
+use Rattle.js_machine.specs.private.AtOnce.{calls}
+use Rattle.js_machine.specs.private.Config.{view_of, reference_of}
+use Rattle.js_machine.proofs.AtOnce.{some_is}
+use Rattle.js_machine.proofs.Assigned.{call_turns}
+use Rattle.js_machine.proofs.operand_calls.call_of_operands.Goals as goal
+
+pub returns-clause-turns : goal.returns-clause-turns
+returns-clause-turns c = λ p otherwise. call_turns (view_of p c.args.code.now.nodes) c.args.arguments c.args.env.index c.args.heap.now _ (reference_of (view_of p c.args.code.now.nodes) c.in-Some.reference) c.in-Some-2.callee c.this_of.result c.in-Some-3.values
+    (some_is _ _ _ c.in-Some.is c.in_ok-reference.ensures p otherwise (calls (view_of p c.args.code.now.nodes) c.args.arguments c.args.env.index))
+    (some_is _ _ _ c.in-Some-2.is c.in_ok-callee.ensures p) (c.this_of.ensures p c.args.code.now.nodes) (some_is _ _ _ c.in-Some-3.is c.in_ok-values.ensures p)

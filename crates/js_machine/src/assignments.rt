@@ -1,0 +1,278 @@
+// Assignments of operands to names and members, without what waits (ECMA-262, 13.15.2 and 13.4).
+
+ghost use Rattle.std.specs.Prelude.{◌≡◌, ℤ, Ok, None, IfOk, IfSome, if◌then◌else◌};
+ghost use Rattle.js_value.specs.Conversions.{to_number as number_told};
+ghost use Rattle.js_value.specs.Members.{put_member as put_told};
+ghost use Rattle.js_heap.specs.Heap.{heap_of};
+ghost use Rattle.js_meaning.specs.Effects.{Comp, handle};
+ghost use Rattle.js_meaning.specs.Meaning as M;
+ghost use Rattle.js_meaning.specs.Program.{Sources};
+ghost use Rattle.js_machine.specs.private.Config.{view_of, expr_at, key_of, reference_of};
+ghost use Rattle.js_machine.specs.private.AtOnce.{done_comp};
+ghost use Rattle.js_machine.specs.private.State.{Turns};
+
+use crate::at_once::Done;
+use crate::member_actions::key_value;
+use crate::names::{Words, name_at};
+use crate::operands::{LEVELS, member, named_member, operand, operated, value_of_name};
+use crate::operators::chosen;
+use crate::parts::{MemberKey, Reference};
+use items::Memory;
+use js_code::{Code, Node};
+use js_heap::{Assign, Env, Heap};
+use js_host::put_member;
+use js_tree::{BinaryOperator, Name, UpdateOperator};
+use js_value::{Complaint, Halt, Primitive, Value, step, to_number};
+use std::alloc::{AllocError, Global};
+
+/// An assignment, by an operator or without.
+pub fn assign(
+    alloc: Global,
+    code: &Code,
+    words: &Words,
+    heap: &mut Heap,
+    operator: Option<BinaryOperator>,
+    target: usize,
+    value: usize,
+    env: Env,
+) -> Result<Option<Done>, Memory>
+    ensures turns { IfOk result (λ found. IfSome found (λ done. (p : Sources) (otherwise : Comp) →
+        Turns (M.comp_reference p (expr_at (view_of p code.now.nodes) target) env.index otherwise
+        (λ r. M.assigning operator r (expr_at (view_of p code.now.nodes) value) env.index (M.comp_expr p (expr_at (view_of p code.now.nodes) value) env.index)))
+        heap.old (done_comp done) heap.new)) }
+    ensures none { result ≡ Ok None → heap_of heap.new ≡ heap_of heap.old }
+{
+    let Some(reference) = refer(alloc, code, words, heap, target, env)? else {
+        return Ok(None);
+    };
+    let Some(value) = new_value(alloc, code, words, heap, operator, &reference, value, env)? else {
+        return Ok(None);
+    };
+    let done = put(alloc, code, words, heap, reference, env, value)?;
+    Ok(Some(done))
+}
+
+/// The reference that an expression is, where it is a name, or a member of operands.
+pub fn refer(
+    alloc: Global,
+    code: &Code,
+    words: &Words,
+    heap: &Heap,
+    place: usize,
+    env: Env,
+) -> Result<Option<Reference>, Memory>
+    ensures { IfOk result (λ found. IfSome found (λ reference. (p : Sources) (otherwise : Comp) (next : M.Reference → Comp) →
+        Turns (M.comp_reference p (expr_at (view_of p code.now.nodes) place) env.index otherwise next) heap.now
+        (next (reference_of (view_of p code.now.nodes) reference)) heap.now)) }
+{
+    match code.node(place) {
+        Node::IdentifierReference { .. } => Ok(Some(Reference::Name(place))),
+        Node::NamedMember { object, .. } => {
+            let Some(base) = operand(alloc, code, words, heap, *object, env, LEVELS)? else {
+                return Ok(None);
+            };
+            Ok(Some(Reference::Member {
+                base,
+                key: MemberKey::Name(place),
+            }))
+        }
+        Node::ComputedMember { object, key, .. } => {
+            let Some(base) = operand(alloc, code, words, heap, *object, env, LEVELS)? else {
+                return Ok(None);
+            };
+            let Some(key) = operand(alloc, code, words, heap, *key, env, LEVELS)? else {
+                return Ok(None);
+            };
+            Ok(Some(Reference::Member {
+                base,
+                key: MemberKey::Value(key),
+            }))
+        }
+        _ => Ok(None),
+    }
+}
+
+// The value that a reference gets: an operand, or what an operator makes of the old value and of that.
+fn new_value(
+    alloc: Global,
+    code: &Code,
+    words: &Words,
+    heap: &Heap,
+    operator: Option<BinaryOperator>,
+    reference: &Reference,
+    value: usize,
+    env: Env,
+) -> Result<Option<Value>, Memory>
+    ensures { IfOk result (λ found. IfSome found (λ new. (p : Sources) →
+        Turns (M.assigning operator (reference_of (view_of p code.now.nodes) reference.now) (expr_at (view_of p code.now.nodes) value) env.index
+        (M.comp_expr p (expr_at (view_of p code.now.nodes) value) env.index)) heap.now
+        (M.put_value env.index (reference_of (view_of p code.now.nodes) reference.now) new) heap.now)) }
+{
+    match operator {
+        None => operand(alloc, code, words, heap, value, env, LEVELS),
+        Some(operator) => {
+            let Some(old) = get(alloc, code, words, heap, reference, env)? else {
+                return Ok(None);
+            };
+            let Some(right) = operand(alloc, code, words, heap, value, env, LEVELS)? else {
+                return Ok(None);
+            };
+            operated(alloc, operator, &old, &right)
+        }
+    }
+}
+
+/// The value of a reference, where it has one.
+pub fn get(
+    alloc: Global,
+    code: &Code,
+    words: &Words,
+    heap: &Heap,
+    reference: &Reference,
+    env: Env,
+) -> Result<Option<Value>, Memory>
+    ensures { IfOk result (λ found. IfSome found (λ value. (p : Sources) →
+        Turns (M.get_value env.index (reference_of (view_of p code.now.nodes) reference.now)) heap.now (M.give value) heap.now)) }
+{
+    match reference {
+        Reference::Name(name) => value_of_name(heap, name_at(code, words, *name), env),
+        Reference::Member { base, key } => get_by_key(alloc, code, heap, base, key),
+    }
+}
+
+// The value of a member by its key.
+fn get_by_key(
+    alloc: Global,
+    code: &Code,
+    heap: &Heap,
+    base: &Value,
+    key: &MemberKey,
+) -> Result<Option<Value>, Memory>
+    ensures { IfOk result (λ found. IfSome found (λ value. (p : Sources) →
+        Turns (M.get_member_of base.now (key_of (view_of p code.now.nodes) key.now)) heap.now (M.give value) heap.now)) }
+{
+    match key {
+        MemberKey::Name(name) => match code.node(*name) {
+            Node::NamedMember { name, .. } => named_member(heap, base, name.units()),
+            _ => Ok(None),
+        },
+        MemberKey::Value(key) => member(alloc, heap, base, key),
+    }
+}
+
+/// A number one more or one less, for a reference: the new number is given or the old one.
+pub fn update(
+    alloc: Global,
+    code: &Code,
+    words: &Words,
+    heap: &mut Heap,
+    prefix: bool,
+    operator: UpdateOperator,
+    target: usize,
+    env: Env,
+) -> Result<Option<Done>, Memory>
+    ensures turns { IfOk result (λ found. IfSome found (λ done. (p : Sources) (otherwise : Comp) →
+        Turns (M.comp_reference p (expr_at (view_of p code.now.nodes) target) env.index otherwise (M.updates prefix operator env.index)) heap.old (done_comp done) heap.new)) }
+    ensures none { result ≡ Ok None → heap_of heap.new ≡ heap_of heap.old }
+{
+    let Some(reference) = refer(alloc, code, words, heap, target, env)? else {
+        return Ok(None);
+    };
+    let Some(old) = get_number(alloc, code, words, heap, &reference, env)? else {
+        return Ok(None);
+    };
+    match step(operator, old) {
+        Ok(new) => {
+            let value = Value::Primitive(Primitive::Number(new));
+            let done = put(alloc, code, words, heap, reference, env, value)?;
+            Ok(Some(before_number(done, prefix, new, old)))
+        }
+        Err(_) => Ok(None),
+    }
+}
+
+// The number that a reference is, where it is one.
+fn get_number(
+    alloc: Global,
+    code: &Code,
+    words: &Words,
+    heap: &Heap,
+    reference: &Reference,
+    env: Env,
+) -> Result<Option<i64>, Memory>
+    ensures { IfOk result (λ found. IfSome found (λ old. (p : Sources) (next : ℤ → Comp) →
+        Turns (handle (M.get_value env.index (reference_of (view_of p code.now.nodes) reference.now)) (M.with_value (λ v. M.numbered (number_told v) next))) heap.now (next old) heap.now)) }
+{
+    match get(alloc, code, words, heap, reference, env)? {
+        Some(value) => match to_number(&value) {
+            Ok(number) => Ok(Some(number)),
+            Err(_) => Ok(None),
+        },
+        None => Ok(None),
+    }
+}
+
+// After what was done, where it gave a value, comes the new number or the old one.
+fn before_number(done: Done, prefix: bool, new: i64, old: i64) -> Done
+    ensures { done_comp result ≡ handle (done_comp done) (M.with_value (λ value. M.give (M.number_value (if prefix then new else old)))) }
+{
+    match done {
+        Done::Gives(_) => Done::Gives(chosen(prefix, new, old)),
+        Done::Throws(complaint) => Done::Throws(complaint),
+        Done::Refuses(kind) => Done::Refuses(kind),
+    }
+}
+
+/// A value for a reference.
+pub fn put(
+    alloc: Global,
+    code: &Code,
+    words: &Words,
+    heap: &mut Heap,
+    reference: Reference,
+    env: Env,
+    value: Value,
+) -> Result<Done, Memory>
+    ensures { IfOk result (λ done. (p : Sources) →
+        Turns (M.put_value env.index (reference_of (view_of p code.now.nodes) reference) value) heap.old (done_comp done) heap.new) }
+{
+    match reference {
+        Reference::Name(name) => put_name(heap, name_at(code, words, name), env, value),
+        Reference::Member { base, key } => {
+            let key = key_value(alloc, code, words, key)?;
+            put_value(alloc, heap, &base, &key, value)
+        }
+    }
+}
+
+// For a name.
+fn put_name(heap: &mut Heap, name: &Name, env: Env, value: Value) -> Result<Done, Memory>
+    ensures { IfOk result (λ done. Turns (M.write name.now env.index value) heap.old (done_comp done) heap.new) }
+{
+    let given = value.copy()?;
+    match heap.assign_name(env, name, value) {
+        Some(Assign::Done) => Ok(Done::Gives(given)),
+        Some(Assign::Dead) => Ok(Done::Throws(Complaint::NotInitialised)),
+        Some(Assign::Constant) => Ok(Done::Throws(Complaint::NotAssignable)),
+        None => Ok(Done::Throws(Complaint::NotDefined)),
+    }
+}
+
+// For a member.
+fn put_value(
+    alloc: Global,
+    heap: &mut Heap,
+    base: &Value,
+    key: &Value,
+    value: Value,
+) -> Result<Done, Memory>
+    ensures { IfOk result (λ done. Turns (M.changes (put_told base.now key.now value) value) heap.old (done_comp done) heap.new) }
+{
+    let given = value.copy()?;
+    match put_member(alloc, heap, base, key, value) {
+        Ok(()) => Ok(Done::Gives(given)),
+        Err(Halt::Throw(complaint)) => Ok(Done::Throws(complaint)),
+        Err(Halt::Refuse(kind)) => Ok(Done::Refuses(kind)),
+        Err(Halt::Memory) => Err(AllocError),
+    }
+}
