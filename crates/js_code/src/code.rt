@@ -15,7 +15,7 @@ use crate::node::Node;
 use crate::scopes::BodyScope;
 use items::{Items, Memory, Text};
 use js_meaning::{Program, ProgramFile};
-use js_tree::Name;
+use js_names::SharedName;
 use std::alloc::Global;
 use std::marker::Model;
 
@@ -151,12 +151,12 @@ fn compile_file(alloc: Global, file: &ProgramFile, code: &mut Compiling) -> Resu
 }
 
 /// The names of a file's objects.
-fn file_names(alloc: Global) -> Result<Items<Name>, Memory>
+fn file_names(alloc: Global) -> Result<Items<SharedName>, Memory>
     ensures { IfOk result (λ names. names ≡ the_file_names) }
 {
     let mut names = Items::new(alloc);
-    names.push(Name::from_str(alloc, "exports")?)?;
-    names.push(Name::from_str(alloc, "require")?)?;
-    names.push(Name::from_str(alloc, "module")?)?;
+    names.push(SharedName::new(alloc, "exports")?)?;
+    names.push(SharedName::new(alloc, "require")?)?;
+    names.push(SharedName::new(alloc, "module")?)?;
     Ok(names)
 }

@@ -5,11 +5,12 @@ ghost use Rattle.js_tree.specs.Tree.{plain_case, plain_cases, plain_catch, plain
 ghost use Rattle.js_code.specs.private.Compiled.{CompilesCase, CompilesCaseScope, CompilesCases, CompilesCatch, CompilesDeclarator, CompilesDeclarators, CompilesExpr, CompilesExprIf, CompilesExprs, CompilesForInit, CompilesForTarget, CompilesFunction, CompilesParam, CompilesParams, CompilesProperties, CompilesProperty, CompilesPropertyKey, CompilesScope, CompilesStmt, CompilesStmtIf, CompilesStmts, CompilesTemplatePart, CompilesTemplateParts};
 
 use crate::compiling::{
-    Compiling, bound_name, chain, copied, copied_identifier, copied_if, note, push, reserve,
+    Compiling, bound_name, chain, copied, note, push, reserve, shared, shared_if,
 };
 use crate::declare::{
     Parts, put_arrow_block, put_arrow_expression, put_case_scope, put_function, put_init, put_scope,
 };
+use crate::identifier::SharedIdentifier;
 use crate::literal::{Numeral, StringValue, Word};
 use crate::node::{ListKind, Node};
 use items::{Boxed, Items, Memory};
@@ -27,7 +28,7 @@ fn expr(alloc: Global, expr: &Expr, code: &mut Compiling) -> Result<usize, Memor
     let loc = expr.loc;
     match &expr.node {
         ExprNode::IdentifierReference(name) => {
-            let name = copied(alloc, name)?;
+            let name = shared(alloc, name)?;
             push(code, Node::IdentifierReference { loc, name })
         }
         ExprNode::This => push(code, Node::This { loc }),
@@ -51,7 +52,7 @@ fn expr(alloc: Global, expr: &Expr, code: &mut Compiling) -> Result<usize, Memor
         }
         ExprNode::FunctionExpression(name, function) => {
             let function = self::function(alloc, function.get(), code)?;
-            let name = copied_if(alloc, name)?;
+            let name = shared_if(alloc, name)?;
             push(
                 code,
                 Node::FunctionExpression {
@@ -518,11 +519,11 @@ fn stmt(alloc: Global, stmt: &Stmt, code: &mut Compiling) -> Result<usize, Memor
             )
         }
         StmtNode::Continue(label) => {
-            let label = copied_if(alloc, label)?;
+            let label = shared_if(alloc, label)?;
             push(code, Node::Continue { loc, label })
         }
         StmtNode::Break(label) => {
-            let label = copied_if(alloc, label)?;
+            let label = shared_if(alloc, label)?;
             push(code, Node::Break { loc, label })
         }
         StmtNode::Return(value) => {
@@ -536,7 +537,7 @@ fn stmt(alloc: Global, stmt: &Stmt, code: &mut Compiling) -> Result<usize, Memor
         }
         StmtNode::Labelled(label, body) => {
             let body = self::stmt(alloc, body.get(), code)?;
-            let label = copied_identifier(alloc, label)?;
+            let label = SharedIdentifier::new(alloc, label)?;
             push(code, Node::Labelled { loc, label, body })
         }
         StmtNode::Throw(value) => {
@@ -570,7 +571,7 @@ fn stmt(alloc: Global, stmt: &Stmt, code: &mut Compiling) -> Result<usize, Memor
         StmtNode::Debugger => push(code, Node::Debugger { loc }),
         StmtNode::FunctionDeclaration(name, function) => {
             let function = self::function(alloc, function.get(), code)?;
-            let name = copied_identifier(alloc, name)?;
+            let name = SharedIdentifier::new(alloc, name)?;
             push(
                 code,
                 Node::FunctionDeclaration {

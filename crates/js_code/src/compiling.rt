@@ -6,9 +6,11 @@ ghost use Rattle.js_code.specs.Node.{PartsBelow, ScopeHolds};
 ghost use Rattle.js_code.specs.Code.{node_at, reader};
 ghost use Rattle.js_code.specs.private.Compiled.{AllBelow, Chained, Pushed, Stands, built};
 
+use crate::identifier::SharedIdentifier;
 use crate::node::{ListKind, Node};
 use crate::places::Places;
 use items::{Items, Memory, Text};
+use js_names::SharedName;
 use js_tree::{Identifier, Name, Pattern, PatternNode};
 use std::alloc::Global;
 use std::marker::Model;
@@ -108,14 +110,11 @@ pub fn copied(alloc: Global, text: &Text) -> Result<Text, Memory>
     Text::from_str(alloc, text.as_str())
 }
 
-/// A copy of an identifier.
-pub fn copied_identifier(alloc: Global, identifier: &Identifier) -> Result<Identifier, Memory>
-    ensures { IfOk result (λ copy. copy ≡ identifier.now) }
+/// A name, as a run holds it.
+pub fn shared(alloc: Global, name: &Name) -> Result<SharedName, Memory>
+    ensures { IfOk result (λ shared. shared ≡ name.now) }
 {
-    Ok(Identifier {
-        loc: identifier.loc,
-        name: copied(alloc, &identifier.name)?,
-    })
+    SharedName::new(alloc, name.as_str())
 }
 
 /// Puts the list of the parts at these places at the end, and gives its place.
@@ -149,24 +148,24 @@ pub fn note(code: &mut Compiling, number: u64, place: usize)
     code.functions.put(number as usize, place);
 }
 
-/// A copy of an identifier that may be missing.
-pub fn copied_if(
+/// An identifier that may be missing, as a run holds it.
+pub fn shared_if(
     alloc: Global,
     identifier: &Option<Identifier>,
-) -> Result<Option<Identifier>, Memory>
-    ensures { IfOk result (λ copy. copy ≡ identifier.now) }
+) -> Result<Option<SharedIdentifier>, Memory>
+    ensures { IfOk result (λ shared. shared ≡ identifier.now) }
 {
     match identifier {
         None => Ok(None),
-        Some(identifier) => Ok(Some(copied_identifier(alloc, identifier)?)),
+        Some(identifier) => Ok(Some(SharedIdentifier::new(alloc, identifier)?)),
     }
 }
 
-/// A copy of the name that a pattern binds.
+/// The name that a pattern binds.
 #[tactic(auto, using(js_tree::proofs::Equations::tree_rules))]
-pub fn bound_name(alloc: Global, pattern: &Pattern) -> Result<Name, Memory>
+pub fn bound_name(alloc: Global, pattern: &Pattern) -> Result<SharedName, Memory>
     ensures { IfOk result (λ name. plain_pattern pattern.now ≡ BindingIdentifier pattern.now.loc name) }
 {
     let PatternNode::BindingIdentifier(name) = &pattern.node;
-    copied(alloc, name)
+    shared(alloc, name)
 }

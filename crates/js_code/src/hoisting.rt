@@ -89,7 +89,7 @@ fn hoist(
     } = code.node(place)
     {
         let (number, length) = shape_at(code, *function);
-        let name = Word::new(alloc, name.name.as_str())?;
+        let name = Word::new(alloc, name.name().as_str())?;
         functions.push(Hoisted::new(name, number, length))?;
     }
     Ok(())

@@ -7,6 +7,7 @@ mod compile;
 mod compiling;
 mod declare;
 mod hoisting;
+mod identifier;
 mod literal;
 mod names;
 mod node;
@@ -15,6 +16,7 @@ mod places;
 mod scopes;
 
 pub use code::{Code, FileCode};
+pub use identifier::SharedIdentifier;
 pub use literal::{Numeral, StringValue, Word};
 pub use node::{ListKind, Node};
 pub use scopes::{BlockScope, BodyScope, Hoisted, NewName};

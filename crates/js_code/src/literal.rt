@@ -4,6 +4,7 @@ ghost use Rattle.js_value.specs.Numbers.{literal_number};
 ghost use Rattle.js_value.specs.Functions.{name_units};
 
 use items::{Memory, Text};
+use js_names::SharedName;
 use js_tree::Spelled;
 use js_value::{Str, number_of};
 use std::alloc::Global;
@@ -79,7 +80,7 @@ impl StringValue {
 /// A name with its 16-bit units, which are worked out once. Contracts see it as the name.
 #[derive(Drop)]
 pub struct Word {
-    name: Text,
+    name: SharedName,
     units: Str,
 }
 
@@ -100,13 +101,13 @@ impl Word {
         ensures { IfOk result (λ word. word ≡ name.now) }
     {
         Ok(Word {
-            name: Text::from_str(alloc, name)?,
+            name: SharedName::new(alloc, name)?,
             units: units_of(alloc, name)?,
         })
     }
 
     /// The name.
-    pub fn name(&self) -> &Text
+    pub fn name(&self) -> &SharedName
         ensures { result.now ≡ self.now }
     {
         &self.name

@@ -10,13 +10,13 @@ ghost use Rattle.js_walk.specs.Part.{AForInit, AForTarget, APattern, AStmt};
 ghost use Rattle.js_code.specs.Scopes.{told_before};
 ghost use Rattle.js_code.specs.private.Seen.{defaulted};
 
-use crate::compiling::{bound_name, copied};
+use crate::compiling::{bound_name, shared};
 use crate::once::once;
 use crate::scopes::{BlockScope, BodyScope, Hoisted, NewName};
 use items::{Items, Memory};
+use js_names::SharedName;
 use js_tree::{
-    Case, Declarator, ForInit, ForTarget, Name, Param, Pattern, PatternNode, Stmt, StmtNode,
-    VariableKind,
+    Case, Declarator, ForInit, ForTarget, Param, Pattern, PatternNode, Stmt, StmtNode, VariableKind,
 };
 use js_walk::{Part, Visitor, visit_stmts};
 use std::alloc::Global;
@@ -33,7 +33,7 @@ pub fn block_scope(
     }) }
 {
     let mut names = Items::new(alloc);
-    push_variables(alloc, functions.as_slice(), &mut names)?;
+    push_variables(functions.as_slice(), &mut names)?;
     push_lexical(alloc, stmts, &mut names)?;
     Ok(BlockScope { names, functions })
 }
@@ -50,7 +50,7 @@ pub fn case_scope(
     }) }
 {
     let mut names = Items::new(alloc);
-    push_variables(alloc, functions.as_slice(), &mut names)?;
+    push_variables(functions.as_slice(), &mut names)?;
     for case in cases {
         push_lexical(alloc, case.statements.as_slice(), &mut names)?;
     }
@@ -61,7 +61,7 @@ pub fn case_scope(
 pub fn body_scope(
     alloc: Global,
     apart: bool,
-    params: Items<Name>,
+    params: Items<SharedName>,
     stmts: &[Stmt],
     functions: Items<Hoisted>,
 ) -> Result<BodyScope, Memory>
@@ -74,8 +74,8 @@ pub fn body_scope(
     }) }
 {
     let mut names = var_names(alloc, stmts)?;
-    push_names(alloc, functions.as_slice(), &mut names)?;
-    let before: &[Name] = if apart { &[] } else { params.as_slice() };
+    push_names(functions.as_slice(), &mut names)?;
+    let before: &[SharedName] = if apart { &[] } else { params.as_slice() };
     let variables = once(alloc, before, names.as_slice())?;
     let mut lexical = Items::new(alloc);
     push_lexical(alloc, stmts, &mut lexical)?;
@@ -109,7 +109,7 @@ pub fn code_scope(
 }
 
 /// The names of parameters.
-fn param_names(alloc: Global, params: &[Param]) -> Result<Items<Name>, Memory>
+fn param_names(alloc: Global, params: &[Param]) -> Result<Items<SharedName>, Memory>
     ensures { IfOk result (λ names. names ≡ scopes.param_names (plain_params params.now)) }
 {
     let mut names = Items::new(alloc);
@@ -157,26 +157,22 @@ fn has_default(param: &Param) -> bool
 }
 
 /// Puts the names of some functions at the end, as variables.
-fn push_variables(
-    alloc: Global,
-    functions: &[Hoisted],
-    names: &mut Items<NewName>,
-) -> Result<(), Memory>
+fn push_variables(functions: &[Hoisted], names: &mut Items<NewName>) -> Result<(), Memory>
     ensures { OnOk result (names.new ≡ names.old ++ map (variable_of undefined) (names_of functions.now)) }
 {
     for function in functions {
-        let name = copied(alloc, function.name().name())?;
+        let name = function.name().name().copy()?;
         names.push(NewName::variable(name))?;
     }
     Ok(())
 }
 
 /// Puts the names of some functions at the end.
-fn push_names(alloc: Global, functions: &[Hoisted], names: &mut Items<Name>) -> Result<(), Memory>
+fn push_names(functions: &[Hoisted], names: &mut Items<SharedName>) -> Result<(), Memory>
     ensures { OnOk result (names.new ≡ names.old ++ names_of functions.now) }
 {
     for function in functions {
-        names.push(copied(alloc, function.name().name())?)?;
+        names.push(function.name().name().copy()?)?;
     }
     Ok(())
 }
@@ -238,7 +234,7 @@ fn push_uninitialized(
 
 /// The names that statements declare by `var`, in the order of the text.
 #[tactic(auto, using(js_meaning::proofs::MetNames::met_all))]
-fn var_names(alloc: Global, stmts: &[Stmt]) -> Result<Items<Name>, Memory>
+fn var_names(alloc: Global, stmts: &[Stmt]) -> Result<Items<SharedName>, Memory>
     ensures { IfOk result (λ names. names ≡ var_stmts (plain_stmts stmts.now)) }
 {
     let mut collector = Collector {
@@ -253,7 +249,7 @@ fn var_names(alloc: Global, stmts: &[Stmt]) -> Result<Items<Name>, Memory>
 #[derive(Drop)]
 struct Collector {
     alloc: Global,
-    names: Items<Name>,
+    names: Items<SharedName>,
 }
 
 impl Visitor for Collector {
@@ -293,11 +289,11 @@ impl Visitor for Collector {
 
 /// Puts the name of a pattern that `var` declares at the end.
 #[tactic(auto, using(js_tree::proofs::Equations::tree_rules))]
-fn push_name(alloc: Global, pattern: &Pattern, names: &mut Items<Name>) -> Result<(), Memory>
+fn push_name(alloc: Global, pattern: &Pattern, names: &mut Items<SharedName>) -> Result<(), Memory>
     ensures { IfOk result (λ _. names.new ≡ names.old ++ own_var true (APattern (plain_pattern pattern.now))) }
 {
     let PatternNode::BindingIdentifier(name) = &pattern.node;
-    names.push(copied(alloc, name)?)
+    names.push(shared(alloc, name)?)
 }
 
 /// Whether a word declares by `var`.

@@ -1,9 +1,11 @@
+use crate::identifier::SharedIdentifier;
 use crate::literal::{Numeral, StringValue, Word};
 use crate::scopes::{BlockScope, BodyScope, NewName};
 use items::{Items, Text};
+use js_names::SharedName;
 use js_tree::{
-    AssignmentOperator, BinaryOperator, Identifier, Loc, LogicalOperator, Name, UnaryOperator,
-    UpdateOperator, VariableKind,
+    AssignmentOperator, BinaryOperator, Loc, LogicalOperator, UnaryOperator, UpdateOperator,
+    VariableKind,
 };
 
 /// What a list is of.
@@ -34,7 +36,7 @@ pub enum Node {
         /// Its place in the text.
         loc: Option<Loc>,
         /// The name.
-        name: Name,
+        name: SharedName,
     },
     /// `this` (13.2.1).
     This {
@@ -86,7 +88,7 @@ pub enum Node {
         /// Its place in the text.
         loc: Option<Loc>,
         /// Its own name, if it has one.
-        name: Option<Identifier>,
+        name: Option<SharedIdentifier>,
         /// Its code.
         function: usize,
     },
@@ -342,7 +344,7 @@ pub enum Node {
         /// The place of its name in the text.
         name_loc: Option<Loc>,
         /// The name.
-        name: Name,
+        name: SharedName,
         /// The value where no argument is given, or that it is missing.
         default: usize,
     },
@@ -450,14 +452,14 @@ pub enum Node {
         /// Its place in the text.
         loc: Option<Loc>,
         /// The label that it names, if it names one.
-        label: Option<Identifier>,
+        label: Option<SharedIdentifier>,
     },
     /// `break` (14.9).
     Break {
         /// Its place in the text.
         loc: Option<Loc>,
         /// The label that it names, if it names one.
-        label: Option<Identifier>,
+        label: Option<SharedIdentifier>,
     },
     /// `return` (14.10).
     Return {
@@ -480,7 +482,7 @@ pub enum Node {
         /// Its place in the text.
         loc: Option<Loc>,
         /// The label.
-        label: Identifier,
+        label: SharedIdentifier,
         /// The statement.
         body: usize,
     },
@@ -530,7 +532,7 @@ pub enum Node {
         /// Its place in the text.
         loc: Option<Loc>,
         /// Its name.
-        name: Identifier,
+        name: SharedIdentifier,
         /// Its code.
         function: usize,
     },
@@ -541,7 +543,7 @@ pub enum Node {
         /// The place of its name in the text.
         name_loc: Option<Loc>,
         /// The name.
-        name: Name,
+        name: SharedName,
         /// Its initializer, or that it is missing.
         initializer: usize,
     },
@@ -570,7 +572,7 @@ pub enum Node {
         /// The place of the name in the text.
         name_loc: Option<Loc>,
         /// The name.
-        name: Name,
+        name: SharedName,
     },
     /// The target of a `for` with `in` or `of`: a name or a member (14.7.5).
     TargetExpression {
@@ -596,7 +598,7 @@ pub enum Node {
         /// The place of the name in the text.
         name_loc: Option<Loc>,
         /// The name.
-        name: Name,
+        name: SharedName,
         /// The scope of its statements.
         statements: usize,
     },

@@ -5,14 +5,14 @@ ghost use Rattle.js_value.specs.Realm.{undefined};
 
 use crate::literal::Word;
 use items::{Items, Memory};
-use js_tree::Name;
+use js_names::SharedName;
 use js_value::{Primitive, Value};
 use std::marker::Model;
 
 /// A name that a scope begins with. Contracts see it as the binding (ECMA-262, 9.1.1.1) that it is made as.
 #[derive(Drop)]
 pub struct NewName {
-    name: Name,
+    name: SharedName,
     initialized: bool,
     constant: bool,
 }
@@ -30,7 +30,7 @@ impl NewName {
     ghost use Rattle.js_meaning.specs.Scopes.{variable_of, uninitialized};
 
     /// A name whose value is undefined at first.
-    pub fn variable(name: Name) -> NewName
+    pub fn variable(name: SharedName) -> NewName
         ensures { result ≡ variable_of undefined name }
     {
         NewName {
@@ -41,7 +41,7 @@ impl NewName {
     }
 
     /// A name without a value at first.
-    pub fn uninitialized(name: Name, constant: bool) -> NewName
+    pub fn uninitialized(name: SharedName, constant: bool) -> NewName
         ensures { result ≡ uninitialized constant name }
     {
         NewName {
@@ -52,7 +52,7 @@ impl NewName {
     }
 
     /// The name.
-    pub fn name(&self) -> &Name
+    pub fn name(&self) -> &SharedName
         ensures { result.now ≡ self.now.name }
     {
         &self.name
@@ -151,11 +151,11 @@ pub struct BlockScope {
 #[derive(Drop)]
 pub struct BodyScope {
     /// The names of the parameters.
-    pub params: Items<Name>,
+    pub params: Items<SharedName>,
     /// Whether the names of the body stand in an environment of their own: a parameter has a default.
     pub apart: bool,
     /// The names that are variables from the start on, each once: where they stand beside the parameters, without those.
-    pub variables: Items<Name>,
+    pub variables: Items<SharedName>,
     /// The names of `let` and `const`.
     pub lexical: Items<NewName>,
     /// The functions, in the order of the text.

@@ -1,4 +1,5 @@
 pub mod Lists
+pub mod MaskLemmas
 pub mod ObjectLemmas
 pub mod Outcomes
 pub mod Chains

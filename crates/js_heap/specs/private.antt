@@ -1,5 +1,6 @@
 -- What the contracts of private functions name: no reader has to believe it.
 pub mod Bindings
 pub mod Environment
+pub mod Mask
 pub mod Object
 pub mod Write

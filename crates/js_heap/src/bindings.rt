@@ -3,31 +3,38 @@ ghost use Rattle.std.specs.Option.{ForSome};
 ghost use Rattle.std.specs.Str.{bytes_eq};
 ghost use Rattle.indexmap.specs.IndexMap.{get_by_text};
 ghost use Rattle.js_heap.specs.private.Bindings.{or_place, IsIndexOf};
+ghost use Rattle.js_heap.specs.private.Mask.{IsMaskOf};
 
 use crate::Assign;
 use crate::environment::Binding;
+use crate::mask::{lacks, mask_of, with_bit};
 use indexmap::IndexMap;
 use items::Memory;
-use js_terms::Name;
+use js_names::SharedName;
 use js_value::Value;
 use std::alloc::Global;
 
 /// How many names are looked for along their list.
 const FEW: usize = 8;
 
-/// The names of an environment in the order in which they were declared. A few of them are looked for
-/// along their list, which is quick and takes the least memory. From 9 on an index tells the first
-/// place of each.
+/// The names of an environment in the order in which they were declared. A mask tells of most names that are none of them. A few
+/// are looked for along their list, which is quick and takes the least memory. From 9 on an index tells the first place of each.
 pub struct Bindings {
     pub(crate) items: Vec<Binding>,
+    mask: u64,
     index: Option<Box<IndexMap<String, usize>>>,
+    ghost masked: { IsMaskOf mask (map (λ b. b.name) items.items) },
     ghost indexed: { ForSome index (λ i. IsIndexOf (get_by_text i.value) (map (λ b. b.name) items.items)) },
 }
 
 impl Drop for Bindings {
     // Written out, so that what drops one calls this and needn't prove it again.
     fn drop(self) {
-        let Bindings { items, index } = self;
+        let Bindings {
+            items,
+            mask: _,
+            index,
+        } = self;
         drop(items);
         drop(index);
     }
@@ -37,7 +44,7 @@ impl Drop for Bindings {
 fn with_name(
     alloc: Global,
     index: Box<IndexMap<String, usize>>,
-    name: &Name,
+    name: &SharedName,
     place: usize,
 ) -> Result<Box<IndexMap<String, usize>>, Memory>
     ensures { IfOk result (λ made. (q : List ℕ) → get_by_text made.value q
@@ -89,6 +96,7 @@ impl Bindings {
     {
         Bindings {
             items: Vec::new(alloc),
+            mask: 0,
             index: None,
         }
     }
@@ -98,13 +106,17 @@ impl Bindings {
         ensures { IfOk result (λ made. made.items.items ≡ items.items) }
     {
         let index = index_of_many(alloc, items.as_slice())?;
-        Ok(Bindings { items, index })
+        let mask = mask_of(items.as_slice());
+        Ok(Bindings { items, mask, index })
     }
 
     /// The first place of this name.
-    pub fn place_of(&self, name: &Name) -> Option<usize>
+    pub fn place_of(&self, name: &SharedName) -> Option<usize>
         ensures { result ≡ position (λ b. bytes_eq b.name name.now) self.now.items.items }
     {
+        if lacks(self.mask, name) {
+            return None;
+        }
         match &self.index {
             Some(index) => index.get(name.as_str()).copied(),
             None => self.items.iter().position(|binding| binding.has(name)),
@@ -118,6 +130,7 @@ impl Bindings {
     {
         self.items.reserve(1)?;
         let index = self.index_with(&binding.name)?;
+        self.mask = with_bit(self.mask, &binding.name);
         self.items.push_reserved(binding);
         self.index = index;
         Ok(())
@@ -125,7 +138,10 @@ impl Bindings {
 
     /// The index of these names and one more, where there are more than a few. It is taken away from
     /// these.
-    fn index_with(&mut self, name: &Name) -> Result<Option<Box<IndexMap<String, usize>>>, Memory>
+    fn index_with(
+        &mut self,
+        name: &SharedName,
+    ) -> Result<Option<Box<IndexMap<String, usize>>>, Memory>
         ensures index { IfOk result (λ made. ForSome made (λ i.
             IsIndexOf (get_by_text i.value) (map (λ b. b.name) self.old.items.items ++ name.now ∷ []))) }
         ensures items { self.new.items ≡ self.old.items }

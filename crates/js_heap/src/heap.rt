@@ -10,7 +10,7 @@ use crate::object::{ObjectRecord, Property};
 use crate::write::Write;
 use crate::{Assign, Cell, Delete, Env, Flags, ObjectKind, Set, keys, texts};
 use items::{Items, Memory};
-use js_terms::Name;
+use js_names::SharedName;
 use js_value::{Key, Object, Str, Value};
 use std::alloc::Global;
 
@@ -413,7 +413,7 @@ impl Heap {
     pub fn declare(
         &mut self,
         env: Env,
-        name: &Name,
+        name: &SharedName,
         value: Option<Value>,
         constant: bool,
     ) -> Result<Cell, Memory>
@@ -425,7 +425,7 @@ impl Heap {
         }) }
         ensures err { OnErr result (heap_of self.new ≡ heap_of self.old) }
     {
-        let name = Name::from_str(self.alloc, name.as_str())?;
+        let name = name.copy()?;
         let binding = Binding {
             name,
             value,
@@ -454,7 +454,7 @@ impl Heap {
     }
 
     /// The cell of this name: of the environment, or else of the first outward that has it (9.1.2.1).
-    pub fn lookup(&self, env: Env, name: &Name) -> Option<Cell>
+    pub fn lookup(&self, env: Env, name: &SharedName) -> Option<Cell>
         ensures { option_map plain_cell result
             ≡ lookup (heap_of self.now) env.index name.now }
     {
@@ -508,7 +508,7 @@ impl Heap {
     }
 
     /// Gives the name its first value where it is, which is told (9.1.1.1.4).
-    pub fn init_name(&mut self, env: Env, name: &Name, value: Value) -> Option<Cell>
+    pub fn init_name(&mut self, env: Env, name: &SharedName, value: Value) -> Option<Cell>
         ensures cell { option_map plain_cell result ≡ lookup (heap_of self.old) env.index name.now }
         ensures after { heap_of self.new ≡ init_name env.index name.now value (heap_of self.old) }
     {
@@ -526,7 +526,7 @@ impl Heap {
 
     /// Gives the name the value where it is, if it is initialized and not constant (9.1.1.1.5): no answer where it
     /// isn't there.
-    pub fn assign_name(&mut self, env: Env, name: &Name, value: Value) -> Option<Assign>
+    pub fn assign_name(&mut self, env: Env, name: &SharedName, value: Value) -> Option<Assign>
         ensures answer { option_map plain_assign result ≡ name_answer (heap_of self.old) env.index name.now }
         ensures after { heap_of self.new ≡ assign_name env.index name.now value (heap_of self.old) }
     {
@@ -614,7 +614,7 @@ impl Heap {
     }
 
     /// The environment's own cell of this name.
-    fn cell_of(&self, env: Env, name: &Name) -> Option<Cell>
+    fn cell_of(&self, env: Env, name: &SharedName) -> Option<Cell>
         ensures { option_map plain_cell result ≡ option_map (cell_at env.index)
             (place_of (environment_at (heap_of self.now) env.index) name.now) }
     {

@@ -8,6 +8,7 @@ mod elements;
 mod environment;
 mod heap;
 mod keys;
+mod mask;
 mod object;
 mod properties;
 mod texts;

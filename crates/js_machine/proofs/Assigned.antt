@@ -10,13 +10,14 @@ use Rattle.js_value.specs.UnaryOperators.{stepped}
 use Rattle.js_value.specs.Realm.{text}
 use Rattle.js_value.specs.Functions.{name_units}
 use Rattle.js_heap.specs.declared.heap.Heap.{Heap}
+use Rattle.js_heap.specs.Heap.{heap_of}
 use Rattle.js_code.specs.Part.{as_exprs}
 use Rattle.js_meaning.specs.Effects.{Comp, handle}
 use Rattle.js_meaning.specs.Meaning as M
 use Rattle.js_machine.specs.declared.at_once.Done.{Done}
 use Rattle.js_machine.specs.private.AtOnce.{HasValue, calls, done_comp}
 use Rattle.js_machine.specs.private.Config.{View, expr_at}
-use Rattle.js_machine.specs.private.State.{Turns, with_heap}
+use Rattle.js_machine.specs.private.State.{Becomes, Turns, with_heap}
 use Rattle.js_machine.proofs.Acts.{same_comp}
 use Rattle.js_machine.proofs.AtOnce.{done_then, gives_then, named_turns}
 use Rattle.js_machine.proofs.Stores.{becomes_on}
@@ -25,6 +26,12 @@ use Rattle.js_machine.proofs.Stores.{becomes_on}
 pub turns_on : (c d e : Comp) (g h i : Heap) → Turns c g d h → Turns d h e i → Turns c g e i
 turns_on c d e g h i first second = record {
   same = λ base. becomes_on c d e (with_heap base g) (with_heap base h) (with_heap base i) (first.same base) (second.same base);
+}
+
+-- and where the heap that it leads to is seen as another
+pub turns_to : (c d : Comp) (g h i : Heap) → heap_of i ≡ heap_of h → Turns c g d h → Turns c g d i
+turns_to c d g h i is turns = record {
+  same = λ base. subst (λ seen. Becomes c (with_heap base g) d (record base { heap = seen })) (sym is) (turns.same base);
 }
 
 -- the references that expressions are
@@ -88,11 +95,11 @@ step_turns operator prefix env r old new d g h is turns =
     (done_then (M.put_value env r (M.number_value new)) d (λ w. M.give (M.number_value (if prefix then new else old))) g h turns)
 
 -- a call of operands
-pub call_turns : (t : View) (arguments env : ℕ) (h : Heap) (c : Comp) (r : M.Reference) (f this : Value) (vs : List Value) →
+pub calls_turns : (t : View) (arguments env : ℕ) (h : Heap) (c : Comp) (r : M.Reference) (f this : Value) (vs : List Value) →
     Turns c h (calls t arguments env r) h → Turns (M.get_value env r) h (M.give f) h → this ≡ M.this_of r →
     ((next : List Value → Comp) → Turns (M.comp_values t.program (as_exprs (t.tree arguments)) env [] next) h (next vs) h) →
     Turns c h (M.call f this vs) h
-call_turns t arguments env h c r f this vs refers reads is values =
+calls_turns t arguments env h c r f this vs refers reads is values =
     turns_on c (calls t arguments env r) (M.call f this vs) h h h refers
     (gives_then (M.get_value env r) f (λ g. M.comp_values t.program (as_exprs (t.tree arguments)) env [] (M.call g (M.this_of r))) (M.call f this vs) h h h reads
     (subst (λ x. Turns (M.comp_values t.program (as_exprs (t.tree arguments)) env [] (M.call f (M.this_of r))) h (M.call f x vs) h) (sym is) (values (M.call f (M.this_of r)))))

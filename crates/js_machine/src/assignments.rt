@@ -21,7 +21,8 @@ use items::Memory;
 use js_code::{Code, Node};
 use js_heap::{Assign, Env, Heap};
 use js_host::put_member;
-use js_tree::{BinaryOperator, Name, UpdateOperator};
+use js_names::SharedName;
+use js_tree::{BinaryOperator, UpdateOperator};
 use js_value::{Complaint, Halt, Primitive, Value, step, to_number};
 use std::alloc::{AllocError, Global};
 
@@ -246,7 +247,7 @@ pub fn put(
 }
 
 // For a name.
-fn put_name(heap: &mut Heap, name: &Name, env: Env, value: Value) -> Result<Done, Memory>
+fn put_name(heap: &mut Heap, name: &SharedName, env: Env, value: Value) -> Result<Done, Memory>
     ensures { IfOk result (λ done. Turns (M.write name.now env.index value) heap.old (done_comp done) heap.new) }
 {
     let given = value.copy()?;

@@ -18,7 +18,6 @@ use crate::lists::{list_of, there};
 use crate::names::Words;
 use crate::operand_calls::call_of_operands;
 use crate::operands::{LEVELS, operand};
-use crate::parameters::bind_parameters;
 use crate::parts::Labels;
 use crate::scope_actions::enter_block;
 use crate::steps::undefined;
@@ -55,8 +54,42 @@ pub fn at_once(
     ensures less { IfOk result (λ found. IfSome found (λ control. control_weight place_weight control < task_weight place_weight task.now)) }
     ensures none { result ≡ Ok None → heap_of heap.new ≡ heap_of heap.old }
 {
+    match expression_of(code, task) {
+        Some((place, env)) => evaluate_task(alloc, code, words, heap, place, env),
+        None => other_task(alloc, code, words, heap, task),
+    }
+}
+
+// The place of the expression whose value a task is to find.
+fn expression_of(code: &Code, task: &Task) -> Option<(usize, Env)>
+    ensures means { IfSome result (λ found. (p : Sources) →
+        task_comp (view_of p code.now.nodes) task.now ≡ M.comp_expr p (expr_at (view_of p code.now.nodes) found.0) found.1.index) }
+    ensures less { IfSome result (λ found. place_weight found.0 ≤ task_weight place_weight task.now) }
+{
     match task {
-        Task::Evaluate { place, env } => evaluate_task(alloc, code, words, heap, *place, *env),
+        Task::Evaluate { place, env } => Some((*place, *env)),
+        Task::EvaluateIf { place, env } => match there(code, *place) {
+            Some(place) => Some((place, *env)),
+            None => None,
+        },
+        _ => None,
+    }
+}
+
+// Any other task.
+fn other_task(
+    alloc: Global,
+    code: &Code,
+    words: &Words,
+    heap: &mut Heap,
+    task: &Task,
+) -> Result<Option<Control>, Memory>
+    ensures turns { IfOk result (λ found. IfSome found (λ control. (p : Sources) →
+        Turns (task_comp (view_of p code.now.nodes) task.now) heap.old (control_comp (view_of p code.now.nodes) control) heap.new)) }
+    ensures less { IfOk result (λ found. IfSome found (λ control. control_weight place_weight control < task_weight place_weight task.now)) }
+    ensures none { result ≡ Ok None → heap_of heap.new ≡ heap_of heap.old }
+{
+    match task {
         Task::EvaluateNamed { place, env, .. } => named_task(
             alloc, code, words, heap, *place, *env,
         ),
@@ -70,11 +103,6 @@ pub fn at_once(
             labels,
             env,
         } => test_task(alloc, code, words, heap, *test, *statement, labels, *env),
-        Task::BindAll {
-            function,
-            arguments,
-            env,
-        } => bind_parameters(code, words, heap, *function, arguments, *env),
         _ => Ok(None),
     }
 }

@@ -15,9 +15,9 @@ use crate::frames::push;
 use crate::parts::{Form, Gathering, Referring, Title};
 use crate::steps::{number, primitive};
 use items::{Items, Memory};
-use js_code::Node;
+use js_code::{Node, SharedIdentifier};
 use js_heap::Env;
-use js_tree::{AssignmentOperator, BinaryOperator, Identifier, UnaryOperator};
+use js_tree::{AssignmentOperator, BinaryOperator, UnaryOperator};
 use js_value::Primitive;
 use std::alloc::Global;
 
@@ -216,7 +216,12 @@ pub fn begin_expression(
 }
 
 // A function, which may have a name of its own, that of its node.
-fn begin_function(own: &Option<Identifier>, function: usize, place: usize, env: Env) -> Control
+fn begin_function(
+    own: &Option<SharedIdentifier>,
+    function: usize,
+    place: usize,
+    env: Env,
+) -> Control
     ensures means { (t : View) (loc : Option Loc) → t.name place ≡ own_name own.now →
         control_comp t result ≡ comp_expr t.program (FunctionExpression loc own.now (function_of (as_code (t.tree function)))) env.index }
     ensures less { (w : Weights) → control_weight w result < 8 }

@@ -30,7 +30,7 @@ use js_code::{Code, FileCode};
 use js_heap::{Binding, Env, Flags, Heap, ObjectKind};
 use js_host::{ascii, global_environment, object_at};
 use js_meaning::Completion;
-use js_tree::Name;
+use js_names::SharedName;
 use js_value::{Complaint, FUNCTIONS, Object, Place, Primitive, Str, Value};
 use path_globs::resolve;
 use std::alloc::Global;
@@ -171,7 +171,7 @@ fn put_object(
     ensures { OnOk result (map plain_binding names.new ≡ map plain_binding names.old ++ variable_of (object_told object.index) name.now ∷ []) }
 {
     names.push(Binding {
-        name: Name::from_str(alloc, name)?,
+        name: SharedName::new(alloc, name)?,
         value: Some(Value::Object(object)),
         constant: false,
     })

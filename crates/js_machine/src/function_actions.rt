@@ -13,13 +13,14 @@ ghost use Rattle.js_meaning.specs.Files.{this_bound};
 ghost use Rattle.js_meaning.specs.Scopes.{shape_of, call_made, param_names, params_of, uninitialized};
 ghost use Rattle.js_machine.specs.private.Config.{form_code, is_ordinary, this_of_call};
 
+use crate::names::Words;
 use crate::parts::Form;
 use crate::scopes::make_scope;
 use items::{Items, Memory};
 use js_code::{Code, Node};
 use js_heap::{Binding, Env, Flags, Heap, ObjectKind};
 use js_host::{Shape, ascii, error_of, error_prototype, make_function, message_of};
-use js_tree::Name;
+use js_names::SharedName;
 use js_value::{Complaint, ErrorKind, Object, Primitive, Str, Value};
 use std::alloc::Global;
 
@@ -71,6 +72,7 @@ fn shape(form: Form, number: u64, length: usize) -> Shape
 pub fn start_call(
     alloc: Global,
     code: &Code,
+    words: &Words,
     heap: &mut Heap,
     this: Option<Value>,
     function: usize,
@@ -80,28 +82,28 @@ pub fn start_call(
         ≡ call_made (this_of_call this) (param_names (params_of (as_code (reader code.now.nodes function)))) env.index (heap_of heap.old)) }
     ensures environment { IfOk result (λ inner. inner.index ≡ next_environment (heap_of heap.old)) }
 {
-    let mut names = this_names(alloc, this)?;
-    put_params(alloc, code, function, &mut names)?;
+    let mut names = this_names(alloc, words, this)?;
+    put_params(code, function, &mut names)?;
     make_scope(heap, names, env)
 }
 
 // The name `this`, if there is one.
-fn this_names(alloc: Global, this: Option<Value>) -> Result<Items<Binding>, Memory>
+fn this_names(alloc: Global, words: &Words, this: Option<Value>) -> Result<Items<Binding>, Memory>
     ensures { IfOk result (λ names. map plain_binding names ≡ this_of_call this) }
 {
     match this {
         None => Ok(Items::new(alloc)),
-        Some(this) => bound_this(alloc, this),
+        Some(this) => bound_this(alloc, words, this),
     }
 }
 
 // The name `this` with a value.
-fn bound_this(alloc: Global, this: Value) -> Result<Items<Binding>, Memory>
+fn bound_this(alloc: Global, words: &Words, this: Value) -> Result<Items<Binding>, Memory>
     ensures { IfOk result (λ names. map plain_binding names ≡ this_bound this) }
 {
     let mut names = Items::new(alloc);
     names.push(Binding {
-        name: Name::from_str(alloc, "this")?,
+        name: words.this().copy()?,
         value: Some(this),
         constant: true,
     })?;
@@ -109,30 +111,25 @@ fn bound_this(alloc: Global, this: Value) -> Result<Items<Binding>, Memory>
 }
 
 // Puts the names of a function's parameters at the end, not initialized yet.
-fn put_params(
-    alloc: Global,
-    code: &Code,
-    function: usize,
-    names: &mut Items<Binding>,
-) -> Result<(), Memory>
+fn put_params(code: &Code, function: usize, names: &mut Items<Binding>) -> Result<(), Memory>
     ensures { OnOk result (map plain_binding names.new
         ≡ map plain_binding names.old ++ map (uninitialized false) (param_names (params_of (as_code (reader code.now.nodes function))))) }
 {
     match code.node(function) {
-        Node::Function { scope, .. } => put_names(alloc, scope.params.as_slice(), names),
-        Node::ArrowExpression { scope, .. } => put_names(alloc, scope.params.as_slice(), names),
-        Node::ArrowBlock { scope, .. } => put_names(alloc, scope.params.as_slice(), names),
+        Node::Function { scope, .. } => put_names(scope.params.as_slice(), names),
+        Node::ArrowExpression { scope, .. } => put_names(scope.params.as_slice(), names),
+        Node::ArrowBlock { scope, .. } => put_names(scope.params.as_slice(), names),
         _ => Ok(()),
     }
 }
 
 // Puts names at the end, not initialized yet.
-fn put_names(alloc: Global, more: &[Name], names: &mut Items<Binding>) -> Result<(), Memory>
+fn put_names(more: &[SharedName], names: &mut Items<Binding>) -> Result<(), Memory>
     ensures { OnOk result (map plain_binding names.new ≡ map plain_binding names.old ++ map (uninitialized false) more.now) }
 {
     for name in more {
         names.push(Binding {
-            name: Name::from_str(alloc, name.as_str())?,
+            name: name.copy()?,
             value: None,
             constant: false,
         })?;

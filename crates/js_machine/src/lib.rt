@@ -5,6 +5,7 @@ mod advance;
 mod assignments;
 mod at_once;
 mod begin;
+mod bodies;
 mod built_ins;
 mod call_actions;
 mod choices;

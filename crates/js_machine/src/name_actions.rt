@@ -13,13 +13,13 @@ use items::Memory;
 use js_heap::{Assign, Cell, Env, Heap};
 use js_host::type_in;
 use js_meaning::Completion;
-use js_tree::Name;
+use js_names::SharedName;
 use js_value::{Complaint, Primitive, Value, ascii};
 use std::alloc::Global;
 
 /// The value of a name.
 #[inline(never)]
-pub fn read(heap: &Heap, name: &Name, env: Env) -> Result<Control, Memory>
+pub fn read(heap: &Heap, name: &SharedName, env: Env) -> Result<Control, Memory>
     ensures means { IfOk result (λ control. (t : View) → control_comp t control
         ≡ M.value_in (heap_of heap.now) (lookup (heap_of heap.now) env.index name.now)) }
     ensures less { IfOk result (λ control. (w : Weights) → control_weight w control < 2) }
@@ -35,7 +35,7 @@ pub fn read(heap: &Heap, name: &Name, env: Env) -> Result<Control, Memory>
 
 /// A value for a name.
 #[inline(never)]
-pub fn write(heap: &mut Heap, name: &Name, env: Env, value: Value) -> Result<Control, Memory>
+pub fn write(heap: &mut Heap, name: &SharedName, env: Env, value: Value) -> Result<Control, Memory>
     ensures after { OnOk result (heap_of heap.new ≡ assign_name env.index name.now value (heap_of heap.old)) }
     ensures means { IfOk result (λ control. (t : View) → control_comp t control
         ≡ M.assigns value (name_answer (heap_of heap.old) env.index name.now)) }
@@ -52,7 +52,12 @@ pub fn write(heap: &mut Heap, name: &Name, env: Env, value: Value) -> Result<Con
 
 /// The first value of a name.
 #[inline(never)]
-pub fn initialize(heap: &mut Heap, name: &Name, env: Env, value: Value) -> Result<Control, Memory>
+pub fn initialize(
+    heap: &mut Heap,
+    name: &SharedName,
+    env: Env,
+    value: Value,
+) -> Result<Control, Memory>
     ensures after { OnOk result (heap_of heap.new ≡ init_name env.index name.now value (heap_of heap.old)) }
     ensures means { IfOk result (λ control. (t : View) → control_comp t control
         ≡ M.initializes value (lookup (heap_of heap.old) env.index name.now)) }
@@ -67,7 +72,12 @@ pub fn initialize(heap: &mut Heap, name: &Name, env: Env, value: Value) -> Resul
 
 /// The type of a name's value, or of none.
 #[inline(never)]
-pub fn type_of_name(alloc: Global, heap: &Heap, name: &Name, env: Env) -> Result<Control, Memory>
+pub fn type_of_name(
+    alloc: Global,
+    heap: &Heap,
+    name: &SharedName,
+    env: Env,
+) -> Result<Control, Memory>
     ensures means { IfOk result (λ control. (t : View) → control_comp t control
         ≡ type_in_cell (heap_of heap.now) (lookup (heap_of heap.now) env.index name.now)) }
     ensures less { IfOk result (λ control. (w : Weights) → control_weight w control < 2) }

@@ -9,8 +9,9 @@ ghost use Rattle.js_machine.specs.private.Config.{name_of, own_name as own, labe
 
 use crate::parts::Title;
 use items::Memory;
-use js_code::{Code, Node, Word};
-use js_tree::{Identifier, Name};
+use js_code::{Code, Node, SharedIdentifier, Word};
+use js_names::SharedName;
+use js_tree::Name;
 use js_value::Str;
 use std::alloc::Global;
 
@@ -22,13 +23,13 @@ pub struct Words {
 
 // The name of `this`.
 struct This {
-    name: Name,
+    name: SharedName,
     ghost is: { name ≡ codes "this" },
 }
 
 // The name of what has none.
 struct Nameless {
-    name: Name,
+    name: SharedName,
     ghost is: { name ≡ [] },
 }
 
@@ -46,16 +47,23 @@ impl Drop for Words {
 impl Words {
     /// These names, or want of memory.
     pub fn new(alloc: Global) -> Result<Words, Memory> {
-        let name = Name::from_str(alloc, "this")?;
-        let nameless = Name::from_str(alloc, "")?;
+        let name = SharedName::new(alloc, "this")?;
+        let nameless = SharedName::new(alloc, "")?;
         Ok(Words {
             this: This { name },
             nameless: Nameless { name: nameless },
         })
     }
 
+    /// The name of `this`.
+    pub fn this(&self) -> &SharedName
+        ensures { result.now ≡ codes "this" }
+    {
+        &self.this.name
+    }
+
     /// The empty name.
-    pub fn nameless(&self) -> &Name
+    pub fn nameless(&self) -> &SharedName
         ensures { result.now ≡ [] }
     {
         &self.nameless.name
@@ -63,7 +71,7 @@ impl Words {
 }
 
 /// The name of the node at a place: the empty one where it has none.
-pub fn name_at<'a>(code: &'a Code, words: &'a Words, place: usize) -> &'a Name
+pub fn name_at<'a>(code: &'a Code, words: &'a Words, place: usize) -> &'a SharedName
     ensures { result.now ≡ name_of (node_at code.now.nodes place) }
 {
     match code.node(place) {
@@ -74,8 +82,8 @@ pub fn name_at<'a>(code: &'a Code, words: &'a Words, place: usize) -> &'a Name
         Node::Shorthand { name, .. } => name.name(),
         Node::NameKey { name } => name.name(),
         Node::Param { name, .. } => name,
-        Node::Labelled { label, .. } => &label.name,
-        Node::FunctionDeclaration { name, .. } => &name.name,
+        Node::Labelled { label, .. } => label.name(),
+        Node::FunctionDeclaration { name, .. } => name.name(),
         Node::Declarator { name, .. } => name,
         Node::TargetDeclaration { name, .. } => name,
         Node::CatchName { name, .. } => name,
@@ -84,12 +92,12 @@ pub fn name_at<'a>(code: &'a Code, words: &'a Words, place: usize) -> &'a Name
 }
 
 // The name that a function may have.
-fn own_name<'a>(words: &'a Words, name: &'a Option<Identifier>) -> &'a Name
+fn own_name<'a>(words: &'a Words, name: &'a Option<SharedIdentifier>) -> &'a SharedName
     ensures { result.now ≡ own name.now }
 {
     match name {
         None => &words.nameless.name,
-        Some(own) => &own.name,
+        Some(own) => own.name(),
     }
 }
 
@@ -113,7 +121,7 @@ pub fn no_units(alloc: Global, words: &Words) -> Result<Str, Memory>
 }
 
 // The 16-bit units of a name.
-fn units_of(alloc: Global, name: &Name) -> Result<Str, Memory>
+fn units_of(alloc: Global, name: &SharedName) -> Result<Str, Memory>
     ensures { IfOk result (λ units. units ≡ name_units name.now) }
 {
     let word = Word::new(alloc, name.as_str())?;

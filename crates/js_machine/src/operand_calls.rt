@@ -13,11 +13,12 @@ ghost use Rattle.js_machine.specs.private.State.{Turns};
 ghost use Rattle.js_machine.specs.private.Weight.{Weights, control_weight};
 
 use crate::assignments::{get, refer};
-use crate::data::{Action, Control};
+use crate::call_actions::call;
+use crate::data::Control;
 use crate::lists::list_of;
 use crate::names::Words;
 use crate::operands::{LEVELS, operand};
-use crate::parts::{Gathering, Reference};
+use crate::parts::Reference;
 use items::{Items, Memory};
 use js_code::{Code, ListKind};
 use js_heap::{Env, Heap};
@@ -37,7 +38,7 @@ pub fn call_of_operands(
     ensures turns { IfOk result (λ found. IfSome found (λ control. (p : Sources) (otherwise : Comp) →
         Turns (M.comp_reference p (expr_at (view_of p code.now.nodes) callee) env.index otherwise (calls (view_of p code.now.nodes) arguments env.index)) heap.now
         (control_comp (view_of p code.now.nodes) control) heap.now)) }
-    ensures less { IfOk result (λ found. IfSome found (λ control. (w : Weights) → control_weight w control ≡ 2)) }
+    ensures less { IfOk result (λ found. IfSome found (λ control. (w : Weights) → control_weight w control < 2)) }
 {
     let Some(reference) = refer(alloc, code, words, heap, callee, env)? else {
         return Ok(None);
@@ -48,13 +49,7 @@ pub fn call_of_operands(
     let Some(values) = operands(alloc, code, words, heap, arguments, env)? else {
         return Ok(None);
     };
-    Ok(Some(Control::Do(Action::Gathered {
-        gathering: Gathering::Call {
-            callee,
-            this: this_of(reference),
-        },
-        values,
-    })))
+    Ok(Some(call(heap, callee, this_of(reference), values)))
 }
 
 // The `this` of a call of a reference: the object of a member (13.3.6.2, 1).

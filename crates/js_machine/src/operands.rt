@@ -19,7 +19,8 @@ use items::Memory;
 use js_code::{Code, Node};
 use js_heap::{Env, Heap};
 use js_host::{get_member, get_named};
-use js_tree::{BinaryOperator, Name};
+use js_names::SharedName;
+use js_tree::BinaryOperator;
 use js_value::{Halt, OpFault, Primitive, Str, Value, binary};
 use std::alloc::{AllocError, Global};
 
@@ -44,7 +45,7 @@ pub fn operand(
         return Ok(None);
     }
     match code.node(place) {
-        Node::IdentifierReference { .. } => value_of_name(heap, name_at(code, words, place), env),
+        Node::IdentifierReference { name, .. } => value_of_name(heap, name, env),
         Node::This { .. } => value_of_name(heap, name_at(code, words, place), env),
         Node::NullLiteral { .. } => Ok(Some(Value::Primitive(Primitive::Null))),
         Node::BooleanLiteral { value, .. } => {
@@ -91,7 +92,7 @@ pub fn operand(
 }
 
 /// The value of a name, where it has one.
-pub fn value_of_name(heap: &Heap, name: &Name, env: Env) -> Result<Option<Value>, Memory>
+pub fn value_of_name(heap: &Heap, name: &SharedName, env: Env) -> Result<Option<Value>, Memory>
     ensures { IfOk result (λ found. IfSome found (λ value. M.value_in (heap_of heap.now) (lookup (heap_of heap.now) env.index name.now) ≡ M.give value)) }
 {
     match heap.lookup(env, name) {

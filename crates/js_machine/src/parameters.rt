@@ -1,6 +1,6 @@
 // Parameters without defaults, which take their arguments without what waits (ECMA-262, 10.2.11).
 
-ghost use Rattle.std.specs.Prelude.{◌≡◌, ◌<◌, ◌+◌, true, false, Ok, None, IfOk, IfSome, if◌then◌else◌, drop as dropped};
+ghost use Rattle.std.specs.Prelude.{◌≡◌, ◌<◌, ◌+◌, ◌*◌, true, false, Ok, None, IfOk, IfSome, if◌then◌else◌, drop as dropped};
 ghost use Rattle.js_tree.specs.Plain.{Params, more_param};
 ghost use Rattle.js_value.specs.declared.deed.Complaint.TheVariants.{NotDefined};
 ghost use Rattle.js_code.specs.Code.{reader};
@@ -11,11 +11,13 @@ ghost use Rattle.js_meaning.specs.Meaning as M;
 ghost use Rattle.js_meaning.specs.Program.{Sources};
 ghost use Rattle.js_machine.specs.declared.data.Task.TheVariants as task;
 ghost use Rattle.js_machine.specs.private.AtOnce.{are_plain, is_plain, param_name};
-ghost use Rattle.js_machine.specs.private.Config.{view_of, body_comp, control_comp, task_comp};
+ghost use Rattle.js_machine.specs.private.Config.{view_of, action_comp, body_comp, control_comp, task_comp};
 ghost use Rattle.js_machine.specs.private.State.{Turns};
-ghost use Rattle.js_machine.specs.private.Weight.{Weights, control_weight};
+ghost use Rattle.js_machine.specs.private.Weight.{place_weight, control_weight};
 
-use crate::data::{Action, Control};
+use crate::bodies::enter_function;
+use crate::data::{Action, Control, Task};
+use crate::function_actions::start_call;
 use crate::functions::argument_at;
 use crate::lists::list_of;
 use crate::names::Words;
@@ -23,11 +25,43 @@ use crate::operators::next_place;
 use items::{Items, Memory};
 use js_code::{Code, ListKind, Node};
 use js_heap::{Env, Heap};
-use js_tree::Name;
+use js_names::SharedName;
 use js_value::{Complaint, Value};
+use std::alloc::Global;
 
-/// The parameters of the function with its code at a place take their arguments, where none has a default.
-pub fn bind_parameters(
+/// A call of the function with its code at a place begins: its environment is made; and where no parameter has a default, they take
+/// their arguments, and its body begins.
+pub fn start_function(
+    alloc: Global,
+    code: &Code,
+    words: &Words,
+    heap: &mut Heap,
+    this: Option<Value>,
+    function: usize,
+    env: Env,
+    arguments: Items<Value>,
+) -> Result<Control, Memory>
+    ensures means { IfOk result (λ control. (p : Sources) →
+        Turns (action_comp (view_of p code.now.nodes) (Action.StartCall this function env arguments)) heap.old (control_comp (view_of p code.now.nodes) control) heap.new) }
+    ensures less { IfOk result (λ control. control_weight place_weight control < 2 * place_weight function + 5) }
+{
+    let inner = start_call(alloc, code, words, heap, this, function, env)?;
+    match bind_parameters(alloc, code, words, heap, function, &arguments, inner)? {
+        Some(control) => {
+            drop(arguments);
+            Ok(control)
+        }
+        None => Ok(Control::Begin(Task::BindAll {
+            function,
+            arguments,
+            env: inner,
+        })),
+    }
+}
+
+// The parameters of the function with its code at a place take their arguments, where none has a default, and its body begins.
+fn bind_parameters(
+    alloc: Global,
     code: &Code,
     words: &Words,
     heap: &mut Heap,
@@ -37,16 +71,18 @@ pub fn bind_parameters(
 ) -> Result<Option<Control>, Memory>
     ensures turns { IfOk result (λ found. IfSome found (λ control. (p : Sources) →
         Turns (task_comp (view_of p code.now.nodes) (task.BindAll function arguments.now env)) heap.old (control_comp (view_of p code.now.nodes) control) heap.new)) }
-    ensures less { IfOk result (λ found. IfSome found (λ control. (w : Weights) → control_weight w control < w function + 2)) }
+    ensures less { IfOk result (λ found. IfSome found (λ control. control_weight place_weight control < place_weight function + 2)) }
     ensures none { result ≡ Ok None → heap_of heap.new ≡ heap_of heap.old }
 {
     match code.node(function) {
-        Node::Function { params, .. } => bind(code, words, heap, *params, function, arguments, env),
+        Node::Function { params, .. } => bind(
+            alloc, code, words, heap, *params, function, arguments, env,
+        ),
         Node::ArrowExpression { params, .. } => {
-            bind(code, words, heap, *params, function, arguments, env)
+            bind(alloc, code, words, heap, *params, function, arguments, env)
         }
         Node::ArrowBlock { params, .. } => {
-            bind(code, words, heap, *params, function, arguments, env)
+            bind(alloc, code, words, heap, *params, function, arguments, env)
         }
         _ => Ok(None),
     }
@@ -54,6 +90,7 @@ pub fn bind_parameters(
 
 // The same of a list of parameters.
 fn bind(
+    alloc: Global,
     code: &Code,
     words: &Words,
     heap: &mut Heap,
@@ -65,14 +102,15 @@ fn bind(
     ensures turns { IfOk result (λ found. IfSome found (λ control. (p : Sources) →
         Turns (handle (M.comp_params p (as_params (reader code.now.nodes params)) env.index arguments.now) (M.with_value (λ v. body_comp (view_of p code.now.nodes) function env.index))) heap.old
         (control_comp (view_of p code.now.nodes) control) heap.new)) }
-    ensures less { IfOk result (λ found. IfSome found (λ control. (w : Weights) → control_weight w control < w function + 2)) }
+    ensures less { IfOk result (λ found. IfSome found (λ control. control_weight place_weight control < place_weight function + 2)) }
     ensures none { result ≡ Ok None → heap_of heap.new ≡ heap_of heap.old }
 {
     if !all_plain(code, params) {
         return Ok(None);
     }
     if take_arguments(code, words, heap, params, arguments, env)? {
-        Ok(Some(Control::Do(Action::EnterBody { function, env })))
+        let control = enter_function(alloc, code, heap, function, env)?;
+        Ok(Some(control))
     } else {
         Ok(Some(Control::Do(Action::Throw(Complaint::NotDefined))))
     }
@@ -166,7 +204,7 @@ fn take_argument(
 }
 
 // The name of a parameter.
-fn name_of_param<'a>(code: &'a Code, words: &'a Words, param: usize) -> &'a Name
+fn name_of_param<'a>(code: &'a Code, words: &'a Words, param: usize) -> &'a SharedName
     ensures { result.now ≡ param_name (as_param (reader code.now.nodes param)) }
 {
     match code.node(param) {

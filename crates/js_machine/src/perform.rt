@@ -21,20 +21,21 @@ ghost use Rattle.js_machine.specs.private.Config.{View, view_of, action_comp, co
 ghost use Rattle.js_machine.specs.private.State.{store_in, Becomes, Turns};
 ghost use Rattle.js_machine.specs.private.Weight.{Weights, place_weight, action_weight, control_weight};
 
+use crate::bodies::enter_function;
 use crate::call_actions::{call, construct};
 use crate::data::{Action, Control, Task};
 use crate::file_actions::{exports, leave_cache, path_at};
-use crate::function_actions::{close, make_complaint, start_call};
+use crate::function_actions::{close, make_complaint};
 use crate::loop_actions::{go_through, go_through_items, go_through_keys};
 use crate::member_actions::{define, delete, get, key_value, put_by_key};
 use crate::name_actions::{initialize, read, type_of_name, write};
 use crate::names::{Words, name_at, text_of};
 use crate::operator_actions::{operate, operate_unary};
+use crate::parameters::start_function;
 use crate::parts::{Form, Gathering, Reference, Title};
 use crate::scope_actions::{
     catch_name, enter_block, enter_loop, enter_switch, make_anew, own_name,
 };
-use crate::scopes::enter_body;
 use crate::state::State;
 use items::{Items, Memory};
 use js_code::{BodyScope, Code, Node};
@@ -167,12 +168,16 @@ pub fn perform(
             env,
             arguments,
         } => {
-            let inner = start_call(alloc, code, &mut state.heap, this, function, env)?;
-            Ok(Control::Begin(Task::BindAll {
+            start_function(
+                alloc,
+                code,
+                words,
+                &mut state.heap,
+                this,
                 function,
+                env,
                 arguments,
-                env: inner,
-            }))
+            )
         }
         Action::EnterBody { function, env } => {
             enter_function(alloc, code, &mut state.heap, function, env)
@@ -263,43 +268,4 @@ fn gathered(
             Ok(give_object(array))
         }
     }
-}
-
-// The names of a function's body are made.
-fn enter_function(
-    alloc: Global,
-    code: &Code,
-    heap: &mut Heap,
-    function: usize,
-    env: Env,
-) -> Result<Control, Memory>
-    ensures means { IfOk result (λ control. (p : Sources) →
-        Turns (action_comp (view_of p code.now.nodes) (Action.EnterBody function env)) heap.old (control_comp (view_of p code.now.nodes) control) heap.new) }
-    ensures less { IfOk result (λ control. (w : Weights) → control_weight w control < w function + 1) }
-{
-    match code.node(function) {
-        Node::Function { scope, .. } => enter_code(alloc, heap, scope, function, env),
-        Node::ArrowExpression { scope, .. } => enter_code(alloc, heap, scope, function, env),
-        Node::ArrowBlock { scope, .. } => enter_code(alloc, heap, scope, function, env),
-        _ => Ok(Control::Begin(Task::Run { function, env })),
-    }
-}
-
-// The same, of this scope.
-fn enter_code(
-    alloc: Global,
-    heap: &mut Heap,
-    scope: &BodyScope,
-    function: usize,
-    env: Env,
-) -> Result<Control, Memory>
-    ensures means { IfOk result (λ control. (t : View) (params : P.Params) (xs : P.Stmts) → scope.now ≡ code_names params xs →
-        Turns (in_body params (body_scope xs) env.index (comp_concise t.program (arrow_body (as_code (t.tree function))))) heap.old (control_comp t control) heap.new) }
-    ensures less { IfOk result (λ control. (w : Weights) → control_weight w control < w function + 1) }
-{
-    let inner = enter_body(alloc, heap, scope, env)?;
-    Ok(Control::Begin(Task::Run {
-        function,
-        env: inner,
-    }))
 }

@@ -17,9 +17,9 @@ use crate::data::{Action, Control, Frame, Pending, Task};
 use crate::frames::push;
 use crate::parts::{Form, MemberKey, Reference, Referring, Title};
 use items::Memory;
-use js_code::Node;
+use js_code::{Node, SharedIdentifier};
 use js_heap::Env;
-use js_tree::{BinaryOperator, Identifier, UnaryOperator};
+use js_tree::{BinaryOperator, UnaryOperator};
 use js_value::{Complaint, Primitive, Value};
 
 /// The expression at a place begins, for the reference that it is.
@@ -323,7 +323,7 @@ pub fn begin_named(node: &Node, title: Title, place: usize, env: Env) -> Control
 
 // A function gets the name where it has none of its own.
 fn begin_function_named(
-    own: &Option<Identifier>,
+    own: &Option<SharedIdentifier>,
     function: usize,
     title: Title,
     place: usize,

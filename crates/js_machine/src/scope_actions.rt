@@ -22,7 +22,8 @@ use items::{Items, Memory};
 use js_code::{Code, Node};
 use js_heap::{Binding, Env, Heap};
 use js_meaning::Completion;
-use js_tree::{Name, VariableKind};
+use js_names::SharedName;
+use js_tree::VariableKind;
 use js_value::{Primitive, Value};
 use std::alloc::Global;
 
@@ -160,7 +161,11 @@ fn target_names(
 }
 
 // A name as it is declared by a word: a variable is declared elsewhere.
-fn kind_names(alloc: Global, kind: VariableKind, name: &Name) -> Result<Items<Binding>, Memory>
+fn kind_names(
+    alloc: Global,
+    kind: VariableKind,
+    name: &SharedName,
+) -> Result<Items<Binding>, Memory>
     ensures { IfOk result (λ names. map plain_binding names ≡ lexical_names kind (name.now ∷ [])) }
 {
     match kind {
@@ -171,12 +176,12 @@ fn kind_names(alloc: Global, kind: VariableKind, name: &Name) -> Result<Items<Bi
 }
 
 // A name that is not initialized yet.
-fn one_name(alloc: Global, name: &Name, constant: bool) -> Result<Items<Binding>, Memory>
+fn one_name(alloc: Global, name: &SharedName, constant: bool) -> Result<Items<Binding>, Memory>
     ensures { IfOk result (λ names. map plain_binding names ≡ uninitialized constant name.now ∷ []) }
 {
     let mut names = Items::new(alloc);
     names.push(Binding {
-        name: Name::from_str(alloc, name.as_str())?,
+        name: name.copy()?,
         value: None,
         constant,
     })?;
@@ -218,7 +223,7 @@ fn is_fresh(code: &Code, init: usize) -> bool
 pub fn catch_name(
     alloc: Global,
     heap: &mut Heap,
-    name: &Name,
+    name: &SharedName,
     value: Value,
     block: usize,
     env: Env,
@@ -239,7 +244,7 @@ pub fn catch_name(
 pub fn own_name(
     alloc: Global,
     heap: &mut Heap,
-    own: &Name,
+    own: &SharedName,
     name: usize,
     function: usize,
     env: Env,

@@ -14,7 +14,7 @@ use items::{Items, Memory};
 use js_code::{BlockScope, BodyScope, Hoisted, NewName};
 use js_heap::{Binding, Env, Heap};
 use js_host::{Shape, make_function};
-use js_tree::Name;
+use js_names::SharedName;
 use js_value::{Primitive, Value};
 use std::alloc::Global;
 
@@ -51,7 +51,7 @@ pub fn bindings(alloc: Global, names: &[NewName]) -> Result<Items<Binding>, Memo
     let mut made = Items::new(alloc);
     for name in names {
         made.push(Binding {
-            name: Name::from_str(alloc, name.name().as_str())?,
+            name: name.name().copy()?,
             value: name.value(),
             constant: name.is_constant(),
         })?;
@@ -87,7 +87,7 @@ fn hoist_one(alloc: Global, heap: &mut Heap, function: &Hoisted, env: Env) -> Re
 pub fn make_name(
     alloc: Global,
     heap: &mut Heap,
-    name: &Name,
+    name: &SharedName,
     value: Option<Value>,
     constant: bool,
     env: Env,
@@ -98,7 +98,7 @@ pub fn make_name(
 {
     let mut names = Items::new(alloc);
     names.push(Binding {
-        name: Name::from_str(alloc, name.as_str())?,
+        name: name.copy()?,
         value,
         constant,
     })?;
@@ -133,7 +133,7 @@ fn enter_beside(alloc: Global, heap: &mut Heap, scope: &BodyScope, env: Env) -> 
 }
 
 // Declares variables, whose value is undefined at first.
-fn declare_variables(heap: &mut Heap, names: &[Name], env: Env) -> Result<(), Memory>
+fn declare_variables(heap: &mut Heap, names: &[SharedName], env: Env) -> Result<(), Memory>
     ensures { OnOk result (heap_of heap.new ≡ declare_all env.index (map (variable_of undefined) names.now) (heap_of heap.old)) }
 {
     for name in names {
@@ -160,14 +160,13 @@ fn enter_apart(alloc: Global, heap: &mut Heap, scope: &BodyScope, env: Env) -> R
 {
     let mut names = Items::new(alloc);
     put_variables(
-        alloc,
         heap,
         scope.params.as_slice(),
         scope.variables.as_slice(),
         env,
         &mut names,
     )?;
-    put_lexical(alloc, scope.lexical.as_slice(), &mut names)?;
+    put_lexical(scope.lexical.as_slice(), &mut names)?;
     let inner = make_scope(heap, names, env)?;
     hoist(alloc, heap, scope.functions.as_slice(), inner)?;
     Ok(inner)
@@ -175,10 +174,9 @@ fn enter_apart(alloc: Global, heap: &mut Heap, scope: &BodyScope, env: Env) -> R
 
 // Puts variables with their first values at the end.
 fn put_variables(
-    alloc: Global,
     heap: &Heap,
-    params: &[Name],
-    variables: &[Name],
+    params: &[SharedName],
+    variables: &[SharedName],
     env: Env,
     names: &mut Items<Binding>,
 ) -> Result<(), Memory>
@@ -187,7 +185,7 @@ fn put_variables(
 {
     for name in variables {
         names.push(Binding {
-            name: Name::from_str(alloc, name.as_str())?,
+            name: name.copy()?,
             value: Some(first_value_of(heap, params, name, env)?),
             constant: false,
         })?;
@@ -196,12 +194,12 @@ fn put_variables(
 }
 
 // Puts names at the end.
-fn put_lexical(alloc: Global, more: &[NewName], names: &mut Items<Binding>) -> Result<(), Memory>
+fn put_lexical(more: &[NewName], names: &mut Items<Binding>) -> Result<(), Memory>
     ensures { OnOk result (map plain_binding names.new ≡ map plain_binding names.old ++ more.now) }
 {
     for name in more {
         names.push(Binding {
-            name: Name::from_str(alloc, name.name().as_str())?,
+            name: name.name().copy()?,
             value: name.value(),
             constant: name.is_constant(),
         })?;
@@ -210,7 +208,12 @@ fn put_lexical(alloc: Global, more: &[NewName], names: &mut Items<Binding>) -> R
 }
 
 // The value that a variable of a body begins with.
-fn first_value_of(heap: &Heap, params: &[Name], name: &Name, env: Env) -> Result<Value, Memory>
+fn first_value_of(
+    heap: &Heap,
+    params: &[SharedName],
+    name: &SharedName,
+    env: Env,
+) -> Result<Value, Memory>
     ensures { IfOk result (λ value. value ≡ first_value params.now env.index (heap_of heap.now) name.now) }
 {
     if !stands_among(params, name) {
@@ -233,11 +236,11 @@ fn value_or_undefined(value: Option<&Value>) -> Result<Value, Memory>
 }
 
 // Whether a name is one of some.
-fn stands_among(names: &[Name], name: &Name) -> bool
+fn stands_among(names: &[SharedName], name: &SharedName) -> bool
     ensures { result ≡ stands_in name.now names.now }
 {
     for other in names {
-        if name.as_str() == other.as_str() {
+        if name.is(other) {
             return true;
         }
     }

@@ -18,10 +18,10 @@ use crate::lists::list_of;
 use crate::parts::{Labels, Loop, Scoped, Title};
 use crate::steps::undefined;
 use items::{Boxed, Memory};
-use js_code::{ListKind, Node};
+use js_code::{ListKind, Node, SharedIdentifier};
 use js_heap::Env;
 use js_meaning::Completion;
-use js_tree::{Identifier, Name, VariableKind};
+use js_tree::{Name, VariableKind};
 use js_value::{Primitive, Value};
 use std::alloc::Global;
 
@@ -206,12 +206,12 @@ pub fn begin_try(
 }
 
 // The name of a label that may be missing.
-fn copied(alloc: Global, label: &Option<Identifier>) -> Result<Option<Name>, Memory>
+fn copied(alloc: Global, label: &Option<SharedIdentifier>) -> Result<Option<Name>, Memory>
     ensures { IfOk result (λ name. name ≡ option_map (λ l. l.name) label.now) }
 {
     match label {
         None => Ok(None),
-        Some(label) => Ok(Some(Name::from_str(alloc, label.name.as_str())?)),
+        Some(label) => Ok(Some(Name::from_str(alloc, label.name().as_str())?)),
     }
 }
 

@@ -12,7 +12,7 @@ ghost use Rattle.js_realm.specs.private.Opening.{row_seen, error_seen, named_see
 use crate::places::{global_environment, object_at};
 use items::Memory;
 use js_heap::{Env, Flags, Heap, ObjectKind};
-use js_terms::Name;
+use js_names::SharedName;
 use js_value::{
     BUILT_INS, BuiltIn, CONSTRUCTORS, Constructor, ERRORS, ErrorKind, FUNCTIONS, NAMED_OBJECTS,
     Object, PLACES, PROTOTYPES, Place, Primitive, Value, ascii,
@@ -353,6 +353,6 @@ fn declare_constant(
     ensures { OnOk result (heap_of heap.new
         ≡ declare env.index (spec.constant name.now value) (heap_of heap.old)) }
 {
-    heap.declare(env, &Name::from_str(alloc, name)?, Some(value), true)?;
+    heap.declare(env, &SharedName::new(alloc, name)?, Some(value), true)?;
     Ok(())
 }

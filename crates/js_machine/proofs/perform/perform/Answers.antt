@@ -22,18 +22,17 @@ use Rattle.js_value.specs.Realm.{number_of, object}
 use Rattle.js_value.specs.State.{Plain, RegExp}
 use Rattle.js_value.specs.declared.built_in.Place.TheVariants.{ObjectPrototype, RegExpPrototype}
 use Rattle.js_code.specs.Code.{reader}
-use Rattle.js_code.specs.Part.{as_code, as_properties}
+use Rattle.js_code.specs.Part.{as_properties}
 use Rattle.js_host.specs.Iteration.{plain_iteration}
 use Rattle.js_meaning.specs.declared.outcome.Completion.TheVariants as completion
 use Rattle.js_meaning.specs.Effects.{ret}
-use Rattle.js_meaning.specs.Scopes.{call_made, param_names, params_of, scope_made, shape_of, variable_of}
-use Rattle.js_machine.specs.private.Config.{code_of, call_comp, goes_through, takes_next_of, this_of_call, block_comp, key_of, units_of}
+use Rattle.js_meaning.specs.Scopes.{scope_made, shape_of, variable_of}
+use Rattle.js_machine.specs.private.Config.{code_of, goes_through, takes_next_of, block_comp, key_of, units_of}
 use Rattle.js_machine.proofs.Looked.{operated_turns, unary_turns, type_turns}
 use Rattle.js_machine.proofs.Told.{key_told, units_told}
 use Rattle.js_value.specs.Running.{leave_cache}
 use Rattle.js_machine.specs.private.Config.{path_at, type_in_cell}
 use Rattle.js_machine.specs.private.State.{store_in}
-use Rattle.js_machine.proofs.Entered.{enters_within}
 use Rattle.js_machine.proofs.Stores.{act_becomes, becomes_same}
 use Rattle.std.proofs.Common.{[], ◌∷◌}
 use Rattle.js_value.specs.Running.{cached}
@@ -173,10 +172,9 @@ returns-in_ok-key-in-Define-clause-becomes c = performs c.args.code.now c.args.s
     (w.0 ∙ ap (λ us. objects.define c.in-Define.object.index (objects.assigned us c.in-Define.value) (heap_of c.args.state.now.heap)) (c.in_ok-key-in-Define.ensures ∙ units_told p c.args.code.now.nodes c.in-Define.key)) (w.1 (view_of p c.args.code.now.nodes)))
     (both c.define.result _ _ c.define.ensures.after c.define.ensures.means))
 
-pub returns-in_ok-inner-in-StartCall-clause-becomes : goal.returns-in_ok-inner-in-StartCall-clause-becomes
-returns-in_ok-inner-in-StartCall-clause-becomes c = performed c.args.code.now c.args.state.now c.args.action (action.StartCall c.in-StartCall.this c.in-StartCall.function c.in-StartCall.env c.in-StartCall.arguments) c.in-StartCall.is (control.Begin (task.BindAll c.in-StartCall.function c.in-StartCall.arguments c.in_ok-inner-in-StartCall.inner)) c.start_call.new.heap (λ p of.
-    enters_within (call_made (this_of_call c.in-StartCall.this) (param_names (params_of (as_code (reader c.args.code.now.nodes c.in-StartCall.function)))) c.in-StartCall.env.index) c.in_ok-inner-in-StartCall.inner.index
-    c.args.state.now.heap c.start_call.new.heap (call_comp (view_of p c.args.code.now.nodes) c.in-StartCall.function c.in-StartCall.arguments) c.in_ok-inner-in-StartCall.ensures.made c.in_ok-inner-in-StartCall.ensures.environment)
+pub returns-in-StartCall-clause-becomes : goal.returns-in-StartCall-clause-becomes
+returns-in-StartCall-clause-becomes c = performs c.args.code.now c.args.state.now c.args.action (action.StartCall c.in-StartCall.this c.in-StartCall.function c.in-StartCall.env c.in-StartCall.arguments) c.in-StartCall.is c.start_function.result c.start_function.new.heap
+    (IfOk-weaker c.start_function.result _ _ (λ control turns p of. turns p) c.start_function.ensures.means)
 
 pub returns-in-Exports-clause-becomes : goal.returns-in-Exports-clause-becomes
 returns-in-Exports-clause-becomes c = IfOk-weaker c.exports.result _ _ (λ control means p base of. rw c.in-Exports.is
@@ -222,7 +220,7 @@ pub returns-in-GoThroughItems-clause-less : goal.returns-in-GoThroughItems-claus
 returns-in-GoThroughItems-clause-less c = IfOk-weaker c.go_through_items.result _ _ (λ control less. rw c.in-GoThroughItems.is (less place_weight)) c.go_through_items.ensures.less
 
 pub returns-in-EnterBody-clause-less : goal.returns-in-EnterBody-clause-less
-returns-in-EnterBody-clause-less c = IfOk-weaker c.enter_function.result _ _ (λ control less. rw c.in-EnterBody.is (less place_weight)) c.enter_function.ensures.less
+returns-in-EnterBody-clause-less c = IfOk-weaker c.enter_function.result _ _ (λ control less. rw c.in-EnterBody.is less) c.enter_function.ensures.less
 
 pub returns-in-PutMember-clause-less : goal.returns-in-PutMember-clause-less
 returns-in-PutMember-clause-less c = IfOk-weaker c.put_by_key.result _ _ (λ control less. rw c.in-PutMember.is (less place_weight)) c.put_by_key.ensures.less
@@ -266,8 +264,8 @@ returns-in_ok-object-in-MakeRegExp-clause-less c = rw (c.in-MakeRegExp.is, c.giv
 pub returns-in_ok-object-in-MakeObject-clause-less : goal.returns-in_ok-object-in-MakeObject-clause-less
 returns-in_ok-object-in-MakeObject-clause-less c = rw c.in-MakeObject.is (omega arith)
 
-pub returns-in_ok-inner-in-StartCall-clause-less : goal.returns-in_ok-inner-in-StartCall-clause-less
-returns-in_ok-inner-in-StartCall-clause-less c = rw c.in-StartCall.is (omega arith)
+pub returns-in-StartCall-clause-less : goal.returns-in-StartCall-clause-less
+returns-in-StartCall-clause-less c = IfOk-weaker c.start_function.result _ _ (λ control less. rw c.in-StartCall.is less) c.start_function.ensures.less
 
 pub returns-in-LeaveCache-clause-less : goal.returns-in-LeaveCache-clause-less
 returns-in-LeaveCache-clause-less c = rw c.in-LeaveCache.is (omega arith)

@@ -10,7 +10,10 @@ pub invariant_of-self : goal.invariant_of-self
 invariant_of-self c =
     let b = c.in-Some.binding.now in
     let names = map-set_same (λ (b : Binding). b.name) c.args.self.now.items.items c.args.place c.args.place c.assign.new.self b b.name refl c.in-Some.ensures.item.3.0 c.in-Some.ensures.value c.assign.ensures.name in
-    record { indexed = λ i is q. c.args.self.now.indexed i is q ∙ ap (position (λ n. bytes_eq n q)) (sym names) }
+    record {
+      masked = λ q absent. ap (position (λ n. bytes_eq n q)) names ∙ c.args.self.now.masked q absent;
+      indexed = λ i is q. c.args.self.now.indexed i is q ∙ ap (position (λ n. bytes_eq n q)) (sym names);
+    }
 
 pub returns-in-Some-clause-after : goal.returns-in-Some-clause-after
 returns-in-Some-clause-after c =
