@@ -1,4 +1,4 @@
-ghost use Rattle.std.specs.Prelude.{◌≡◌, false, if◌then◌else◌};
+ghost use Rattle.std.specs.Prelude.{◌≡◌, false};
 ghost use Rattle.cov_hints.specs.Table.{hint_in_table};
 ghost use Rattle.cov_hints.specs.Left.{left_of};
 ghost use Rattle.js_tree.specs.Hints as spec;

@@ -1,4 +1,4 @@
-ghost use Rattle.std.specs.Prelude.{◌≡◌, ◌≤◌, ℕ, List, [], Some, None, Ok, Err, IfOk, IfErr, IfSome};
+ghost use Rattle.std.specs.Prelude.{◌≡◌, ◌≤◌, ℕ, List, [], Some, None, Ok, Err, IfOk, IfErr};
 ghost use Rattle.cov_base.specs.Causes.{Rose};
 ghost use Rattle.cov_merge.specs.Maps.{merged};
 ghost use Rattle.cov_inputs.specs.Inputs.{HaveSums, IsCause};

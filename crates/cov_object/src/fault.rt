@@ -1,5 +1,5 @@
 ghost use Rattle.std.specs.Prelude.{◌≡◌, ◌≢◌};
-ghost use Rattle.cov_object.specs.declared.fault.CoverageFault.TheVariants.{Memory as OutOfMemory, BadMember as bad_member_of, Count as bad_count_of};
+ghost use Rattle.cov_object.specs.declared.fault.CoverageFault.TheVariants.{Memory as OutOfMemory, BadMember as bad_member_of};
 
 use items::Text;
 use std::alloc::{AllocError, AllocFailed, Global};

@@ -1,4 +1,4 @@
-ghost use Rattle.std.specs.Prelude.{◌≡◌, None, Some, IfOk, OnOk};
+ghost use Rattle.std.specs.Prelude.{◌≡◌, None, Some, IfOk};
 ghost use Rattle.js_terms.specs.declared.operators.BinaryOperator.TheVariants as binary;
 ghost use Rattle.js_terms.specs.declared.operators.LogicalOperator.TheVariants as logic;
 ghost use Rattle.js_terms.specs.declared.operators.UnaryOperator.TheVariants as unary;

@@ -1,4 +1,4 @@
-ghost use Rattle.std.specs.Prelude.{◌≡◌, map, IfOk};
+ghost use Rattle.std.specs.Prelude.{◌≡◌, IfOk};
 ghost use Rattle.js_tree.specs.Tree.{plain_expr};
 ghost use Rattle.cov_object.specs.Json as json;
 ghost use Rattle.cov_rewritten.specs.Preamble as spec;

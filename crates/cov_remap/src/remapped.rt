@@ -7,7 +7,7 @@ ghost use Rattle.cov_remap.specs.private.Piece.{now, onto};
 use crate::fault::RemapFault;
 use crate::pieces::push_all;
 use cov_merge::{MergeFault, merge_files};
-use cov_object::{CoverageMap, FileCoverage, SourceMapText};
+use cov_object::{CoverageMap, FileCoverage};
 use items::{Memory, Text};
 use source_map::{MapFault, SourceMap, read};
 use std::alloc::Global;

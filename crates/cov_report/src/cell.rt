@@ -1,4 +1,4 @@
-ghost use Rattle.std.specs.Prelude.{◌≡◌, ◌++◌, ◌≤◌, length, OnOk};
+ghost use Rattle.std.specs.Prelude.{◌≡◌, ◌++◌, length, OnOk};
 ghost use Rattle.std.specs.Str.{chars};
 ghost use Rattle.cov_summary.specs.Sums.{AreExact};
 ghost use Rattle.cov_summary.specs.Totals.{IsExact};

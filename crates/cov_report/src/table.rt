@@ -1,4 +1,4 @@
-ghost use Rattle.std.specs.Prelude.{◌≡◌, ◌++◌, ◌+◌, ◌<◌, ◌^◌, [], codes, map, IfOk, OnOk};
+ghost use Rattle.std.specs.Prelude.{◌≡◌, ◌++◌, ◌+◌, ◌<◌, [], codes, map, IfOk, OnOk};
 ghost use Rattle.cov_summary.specs.Sums.{AreExact, summary_of};
 ghost use Rattle.cov_base.specs.Sink.{after_more, TakesPrefix};
 ghost use Rattle.cov_report.specs.Fault.{HasReportCause};

@@ -1,5 +1,5 @@
-ghost use Rattle.std.specs.Prelude.{◌≡◌, ◌≢◌, ◌<◌, ◌^◌, ◌++◌, map, ℕ, List, [], ◌∷◌, length, Ok, Err, IfOk, IfErr, OnOk, IsTrue, true};
-ghost use Rattle.std.specs.List.{All, list_all, enumerate_from};
+ghost use Rattle.std.specs.Prelude.{◌≡◌, ◌≢◌, ◌<◌, ◌^◌, ◌++◌, map, ℕ, List, [], ◌∷◌, length, Ok, Err, IfOk, IfErr, OnOk};
+ghost use Rattle.std.specs.List.{All};
 ghost use Rattle.std.specs.Str.{chars};
 ghost use Rattle.cov_v8.specs.declared.fault.V8Fault.TheVariants.{Memory as OutOfMemory};
 ghost use Rattle.cov_v8.specs.Form.{IsRange, IsFunction, AreFunctions};

@@ -1,4 +1,4 @@
-ghost use Rattle.std.specs.Prelude.{◌≡◌, ◌≤◌, map, IfOk};
+ghost use Rattle.std.specs.Prelude.{◌≡◌, IfOk};
 ghost use Rattle.std.specs.List.{All, list_all};
 ghost use Rattle.cov_v8.specs.Form.{IsRange, AreFunctions};
 ghost use Rattle.cov_v8.specs.Coverage as spec;

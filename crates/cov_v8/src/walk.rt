@@ -1,4 +1,4 @@
-ghost use Rattle.std.specs.Prelude.{◌≡◌, ◌≤◌, ℕ, List};
+ghost use Rattle.std.specs.Prelude.{◌≡◌, ◌≤◌, List};
 ghost use Rattle.cov_v8.specs.declared.v8.V8Range.{V8Range as a_range};
 ghost use Rattle.cov_v8.specs.Coverage.{count_at};
 ghost use Rattle.cov_v8.specs.private.Steps as spec;

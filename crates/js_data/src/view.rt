@@ -1,6 +1,6 @@
 // `this` and arguments as built-in functions see them.
 
-ghost use Rattle.std.specs.Prelude.{◌≡◌, ◌≤◌, map, length, pos, IfOk, IfErr, Ok, Err};
+ghost use Rattle.std.specs.Prelude.{◌≡◌, ◌≤◌, map, length, pos, Ok, Err};
 ghost use Rattle.js_value.specs.Arguments as spec;
 ghost use Rattle.js_value.specs.Arguments.{seen};
 ghost use Rattle.js_value.specs.OnData as answers;

@@ -1,7 +1,6 @@
 ghost use Rattle.std.specs.Prelude.{◌≡◌};
 ghost use Rattle.js_reading.specs.Productions as productions;
 ghost use Rattle.js_reading.specs.declared.form.Form.TheVariants as form;
-ghost use Rattle.js_reading.specs.Level as level;
 ghost use Rattle.js_grammar.specs.View.{plain_slots, after_told};
 
 use crate::slot::{ProductionWord, Sign, Slot, Wanted};

@@ -1,5 +1,4 @@
 ghost use Rattle.std.specs.Prelude.{◌≡◌};
-ghost use Rattle.std.specs.Str.{bytes_eq};
 ghost use Rattle.js_text.specs.Token as T;
 ghost use Rattle.js_lexer.specs.Token.{kind_of};
 ghost use Rattle.js_reading.specs.Kinds as kinds;

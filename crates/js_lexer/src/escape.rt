@@ -1,4 +1,4 @@
-ghost use Rattle.std.specs.Prelude.{◌≡◌, ◌<◌, ◌≤◌, ◌+◌, ◌*◌, ◌&&◌, ℕ, nat_le, length, drop, IfSome, Some, None, if◌then◌else◌};
+ghost use Rattle.std.specs.Prelude.{◌≡◌, ◌<◌, ◌≤◌, ◌+◌, ◌*◌, ◌&&◌, nat_le, length, drop, IfSome, Some, None, if◌then◌else◌};
 ghost use Rattle.std.specs.Char as char;
 ghost use Rattle.js_lexer.specs.Escape.{found_at, meaning, says_at};
 ghost use Rattle.js_text.specs.Escape as spec;

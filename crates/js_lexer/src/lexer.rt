@@ -1,4 +1,4 @@
-ghost use Rattle.std.specs.Prelude.{◌≡◌, [], ◌++◌, ◌≤◌, ◌-◌, length, take, drop, IfOk, IfErr, OnErr, Some, None, encode_utf8_all};
+ghost use Rattle.std.specs.Prelude.{◌≡◌, [], ◌≤◌, ◌-◌, take, drop, IfOk, IfErr, OnErr, Some, None, encode_utf8_all};
 ghost use Rattle.std.specs.Str.{chars};
 ghost use Rattle.js_lexer.specs.Token.{plain_token};
 ghost use Rattle.js_text.specs.Lex as spec;

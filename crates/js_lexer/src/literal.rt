@@ -1,4 +1,4 @@
-ghost use Rattle.std.specs.Prelude.{◌≡◌, ◌≤◌, ◌==◌, ◌&&◌, ◌||◌, ℕ, length, drop, slice_get, zero, Some, None, if◌then◌else◌};
+ghost use Rattle.std.specs.Prelude.{◌≡◌, ◌≤◌, ◌==◌, ◌&&◌, ◌||◌, length, drop, slice_get, zero, Some, None, if◌then◌else◌};
 ghost use Rattle.js_lexer.specs.Escape.{found_at};
 ghost use Rattle.js_lexer.specs.Token.{KindIs};
 ghost use Rattle.js_text.specs.Character.{begins_with_character};

@@ -1,4 +1,4 @@
-ghost use Rattle.std.specs.Prelude.{◌≡◌, ◌<◌, ◌≤◌, ◌-◌, ◌++◌, ◌==◌, ◌∷◌, [], ℕ, List, length, take, drop, slice_get, zero, true, false, Some, IfOk, IfSome, IfNone, OnOk, if◌then◌else◌, encode_utf8_all};
+ghost use Rattle.std.specs.Prelude.{◌≡◌, ◌<◌, ◌≤◌, ◌-◌, ◌++◌, ◌==◌, ◌∷◌, [], length, take, drop, slice_get, zero, true, false, Some, IfOk, IfSome, OnOk, if◌then◌else◌, encode_utf8_all};
 ghost use Rattle.std.specs.Char.Escape.{encode_utf16};
 ghost use Rattle.std.specs.Str.{chars};
 ghost use Rattle.js_lexer.specs.Escape.{found_at, meaning};

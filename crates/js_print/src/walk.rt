@@ -1,11 +1,10 @@
-ghost use Rattle.std.specs.Prelude.{◌≡◌, ◌∷◌, ◌++◌, [], true, false, codes};
+ghost use Rattle.std.specs.Prelude.{◌∷◌, ◌++◌, [], true, false, codes};
 ghost use Rattle.js_tree.specs.Tree.{plain_expr, plain_stmt, plain_property, plain_property_key, plain_concise_body, plain_for_init, plain_for_target, plain_function, plain_function_body, plain_param, plain_declarator, plain_case, plain_catch, plain_expr_if, plain_stmt_if, plain_template_part, plain_template_parts, plain_properties, plain_params, plain_exprs, plain_stmts, plain_declarators, plain_cases};
 ghost use Rattle.js_layout.specs.Neat as neat;
 ghost use Rattle.js_layout.specs.Tokens as tokens;
 ghost use Rattle.js_sheet.specs.Stands.{at, Puts};
 ghost use Rattle.js_print.specs.Parts.{neat_param, neat_declarator, part_tokens, template_tokens, test_tokens};
 ghost use Rattle.js_text.specs.Token as token;
-ghost use Rattle.js_text.specs.declared.punctuator.Punctuator.TheVariants as P;
 
 use cov_base::Sink;
 use items::Boxed;

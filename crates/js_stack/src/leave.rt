@@ -4,7 +4,6 @@ ghost use Rattle.js_lexer.specs.Token.{kind_of, plain_token};
 ghost use Rattle.js_text.specs.Token.{End};
 ghost use Rattle.js_reading.specs.Kinds.{is_kind};
 ghost use Rattle.js_reading.specs.Sentences as sentences;
-ghost use Rattle.js_reading.specs.Outside.{this_stmts};
 ghost use Rattle.js_reading.specs.Slots.{AnExpr};
 ghost use Rattle.js_reading.specs.Turns as turns;
 ghost use Rattle.js_grammar.specs.View.{plain_slots, plain_wanted};

@@ -5,7 +5,6 @@ ghost use Rattle.js_stack.specs.View.{config, frames, Gives};
 use crate::Refusal;
 use crate::have::settle;
 use crate::leave::{finished, is_end};
-use crate::parts::Parts;
 use crate::pass::pass;
 use crate::production::{Frame, Place, Turn, discard_frame, discard_place};
 use crate::stack::Stack;

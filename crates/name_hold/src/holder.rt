@@ -1,5 +1,4 @@
 ghost use Rattle.std.specs.Prelude.{◌≡◌, ◌++◌, ◌∷◌, [], None, IfOk};
-ghost use Rattle.js_reading.specs.Productions as productions;
 ghost use Rattle.js_tree.specs.Plain as tree;
 ghost use Rattle.js_tree.specs.Tree.{plain_expr, plain_property};
 ghost use Rattle.cov_rewritten.specs.Counters as spec;

@@ -1,5 +1,5 @@
 // Whether parts are those of a map: their numbers are in range, and their segments stand in order.
-ghost use Rattle.std.specs.Prelude.{◌↔◌, ◌<◌, ◌≡◌, ◌^◌, min, length, true, IsTrue, IfSome};
+ghost use Rattle.std.specs.Prelude.{◌↔◌, ◌<◌, ◌≡◌, ◌^◌, min, true, IsTrue, IfSome};
 ghost use Rattle.source_map.specs.Laws as spec;
 ghost use Rattle.source_map.specs.Map as exact;
 ghost use Rattle.source_map.specs.private.Fit.{Follows};
