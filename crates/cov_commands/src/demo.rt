@@ -1,4 +1,4 @@
-ghost use Rattle.std.specs.Prelude.{◌≡◌, ◌∷◌, ◌++◌, [], ℕ, List, Option, Some, Err, IfOk};
+ghost use Rattle.std.specs.Prelude.{◌≡◌, ◌∷◌, [], ℕ, List, Option, Err, IfOk};
 ghost use Rattle.cov_base.specs.Store.{Held};
 ghost use Rattle.cov_run.specs.declared.fault.LoadFault.TheVariants.{ReadFault};
 ghost use Rattle.cov_words.specs.declared.command.SourceTask.TheVariants.{Demo};

@@ -1,5 +1,5 @@
 // The file that `demo` makes of a number.
-ghost use Rattle.std.specs.Prelude.{◌≡◌, ◌<◌, ◌^◌, IfOk, string_bytes};
+ghost use Rattle.std.specs.Prelude.{◌≡◌, ◌<◌, IfOk, string_bytes};
 ghost use Rattle.cov_commands.specs.DemoFile as spec;
 
 use items::Memory;

@@ -1,6 +1,6 @@
 // What an answer leaves: its output is written, and then its coverage is put.
-ghost use Rattle.std.specs.Prelude.{◌≡◌, ◌≤◌, ◌⊎◌, Err, OnOk};
-ghost use Rattle.cov_base.specs.Causes.{HasCause, Rose};
+ghost use Rattle.std.specs.Prelude.{◌≡◌, ◌⊎◌, Err, OnOk};
+ghost use Rattle.cov_base.specs.Causes.{Rose};
 ghost use Rattle.cov_base.specs.Sink.{after_more, TakesPrefix};
 ghost use Rattle.cov_base.specs.declared.failed.Failed.TheVariants.{Device};
 ghost use Rattle.cov_commands.specs.private.HandedOn.{CountsPuts, StoredBy};

@@ -3,7 +3,7 @@ ghost use Rattle.cov_base.specs.Causes.{Rose};
 ghost use Rattle.cov_base.specs.Store.{Held};
 ghost use Rattle.cov_words.specs.declared.command.Command.TheVariants.{Help};
 ghost use Rattle.cov_commands.specs.Help as spec;
-ghost use Rattle.cov_commands.specs.Program.{PrintsAll, PrintsNothing, SaysLines, SaysAtMost};
+ghost use Rattle.cov_commands.specs.Program.{PrintsAll, SaysLines, SaysAtMost};
 
 use crate::complaints::complain;
 use crate::help::help_text;

@@ -1,4 +1,4 @@
-ghost use Rattle.std.specs.Prelude.{◌≡◌, ◌≢◌, ℕ, List, Some};
+ghost use Rattle.std.specs.Prelude.{◌≡◌, ◌≢◌, Some};
 ghost use Rattle.cov_base.specs.Causes.{Rose};
 ghost use Rattle.cov_words.specs.declared.command.Command.TheVariants.{OnV8};
 ghost use Rattle.cov_commands.specs.Program.{IsDue, Comes, Stores, CountsPuts, SaysFailedRead, SaysLines, SaysAtMost};

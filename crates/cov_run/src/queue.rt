@@ -1,4 +1,4 @@
-ghost use Rattle.std.specs.Prelude.{◌≡◌, ◌++◌, ◌∷◌, [], IfOk, OnOk, MatchOption};
+ghost use Rattle.std.specs.Prelude.{◌≡◌, ◌∷◌, [], IfOk, OnOk, MatchOption};
 ghost use Rattle.std.specs.String.{string_bytes};
 ghost use Rattle.path_globs.specs.Specifier as globs;
 ghost use Rattle.cov_run.specs.Asked as spec;

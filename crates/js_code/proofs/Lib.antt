@@ -1,3 +1,4 @@
+pub mod Rules
 pub mod BoundNames
 pub mod Forms
 pub mod Functions

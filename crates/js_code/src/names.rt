@@ -308,7 +308,7 @@ fn is_the_var(kind: VariableKind) -> bool
 }
 
 /// Whether a statement declares by `var`.
-#[tactic(auto, using(js_tree::proofs::Equations::tree_rules))]
+#[tactic(auto, using(crate::proofs::Rules::stmt_rules))]
 fn declares_in_stmt(stmt: &Stmt) -> bool
     ensures { Some result ≡ declares false (AStmt (plain_stmt stmt.now)) }
 {

@@ -1,10 +1,10 @@
 // What scopes begin with, told once.
 
-ghost use Rattle.std.specs.Prelude.{◌≡◌, IfOk};
+ghost use Rattle.std.specs.Prelude.{◌≡◌};
 ghost use Rattle.js_value.specs.Realm.{undefined};
 
 use crate::literal::Word;
-use items::{Items, Memory};
+use items::Items;
 use js_names::SharedName;
 use js_value::{Primitive, Value};
 use std::marker::Model;

@@ -1,6 +1,6 @@
 // The coverage that a program leaves in its heap.
 
-ghost use Rattle.std.specs.Prelude.{◌≡◌, ◌≢◌, List, None, Some, option_map, IfOk, IfErr};
+ghost use Rattle.std.specs.Prelude.{◌≡◌, ◌≢◌, List, None, Some, option_map, IfOk};
 ghost use Rattle.std.specs.Option.{option_copied};
 ghost use Rattle.items.specs.declared.data.Data.TheVariants as form;
 ghost use Rattle.js_value.specs.Objects.{kind_of, elements_of};

@@ -1,15 +1,16 @@
 -- An element of an array is the property of its index's key.
-use Rattle.std.proofs.Common.{◌≡◌, ℕ, ◌-◌, ◌^◌, ◌<◌, ◌&&◌, Bool, true, false, not, length, Option, Some, None, OnSome, IfNone, option_map, pos, refl, sym, ap, subst, ◌∙◌, arith, if◌then◌else◌}
-use Rattle.std.specs.Prelude.{nat_lt, slice_get}
+use Rattle.std.proofs.Common.{◌≡◌, ℕ, ◌-◌, ◌^◌, ◌<◌, ◌≤◌, ◌&&◌, Bool, true, false, not, length, Option, Some, None, OnSome, IfNone, option_map, pos, refl, sym, ap, subst, ◌∙◌, arith, if◌then◌else◌}
+use Rattle.std.specs.Prelude.{nat_lt, nat_eq, slice_get}
 use Rattle.std.specs.Str.{bytes_eq}
-use Rattle.std.proofs.lemmas.Option.{slice_get-get_or}
+use Rattle.std.proofs.lemmas.Option.{slice_get-get_or, slice_get_past}
 use Rattle.std.proofs.lemmas.Bool.Decides.{nat_tests}
 use Rattle.js_value.specs.declared.value.Value.{Value}
 use Rattle.js_value.specs.State.{ObjectRecord, Heap}
-use Rattle.js_value.specs.Objects.{object_at, kind_of, is_array, array_length, elements_of, get, write_of, Puts, ReadOnly}
+use Rattle.js_value.specs.Objects.{object_at, kind_of, is_array, array_length, elements_of, get, own, own_of, own_of_array, property_of, length_property, assigned, found, write_of, write_to, write_of_new, Puts, Appends, Adds, Sparse, ReadOnly}
+use Rattle.js_value.specs.Key.{index_of}
 use Rattle.js_value.specs.Numbers.{decimal_text}
 use Rattle.js_value.proofs.IndexLemmas.{index_read, element_got}
-use Rattle.js_heap.specs.private.Object.{element_in, takes_element}
+use Rattle.js_heap.specs.private.Object.{element_in, takes_element, ends_at}
 use Rattle.js_heap.specs.private.Write.{property_write, element_write, length_write, array_write, own_write}
 use Rattle.js_heap.proofs.WriteLemmas.{write_of-own}
 
@@ -60,3 +61,36 @@ put_back {P} false r v old new put answer after k = subst (λ q. OnSome q P) (sy
 pub put_done : {P : Type 0} (t : Bool) (r : Option Value) (v : Value) (old new put : ObjectRecord) → r ≡ (if t then None else Some v) → new ≡ (if t then put else old) → (t ≡ true → new ≡ put → P) → IfNone r P
 put_done {P} true r v old new put answer after k = subst (λ q. IfNone q P) (sym answer) (k refl after)
 put_done {P} false r v old new put answer after k = subst (λ q. IfNone q P) (sym answer) tt
+
+-- An array has no element behind its last
+
+pub lacks_element : (object : ObjectRecord) (n : ℕ) → is_array object.kind ≡ true → n < 2 ^ 32 - 1 → length object.elements ≤ n → own_of object (decimal_text (pos n)) ≡ None
+lacks_element object n array small past =
+    let key = decimal_text (pos n) in
+    ap (λ b. if b then own_of_array object key else property_of object.properties key) array
+    ∙ ap (λ i. elim i [
+      | Some m ↦ option_map (assigned key) (slice_get object.elements m)
+      | None ↦ if bytes_eq key array_length then Some (length_property (length object.elements)) else property_of object.properties key
+    ]) (index_read n small)
+    ∙ ap (option_map (assigned key)) (slice_get_past object.elements n past)
+
+-- so a write there puts one more, where what it inherits from has none either
+pub end_appends : (h : Heap) (o n : ℕ) (v : Value) → ends_at (object_at h o) n ≡ true → (n < 2 ^ 32 - 1 → found o h.objects (object_at h o).prototype (decimal_text (pos n)) ≡ None) →
+    write_of h o (decimal_text (pos n)) v ≡ Appends
+end_appends h o n v ends none =
+    let object = object_at h o in
+    let key = decimal_text (pos n) in
+    let holds = all_four (is_array object.kind) object.frozen (nat_lt n (2 ^ 32 - 1)) (nat_eq n (length object.elements)) ends in
+    let small : n < 2 ^ 32 - 1 = grind (arith, nat_tests, holds.2) in
+    let past : length object.elements ≤ n = grind (arith, nat_tests, holds.3) in
+    ap (λ p. write_to object p (found o h.objects object.prototype key) key v) (lacks_element object n holds.0 small past)
+    ∙ ap (λ f. write_to object None f key v) (none small)
+    ∙ ap (λ f. if f then ReadOnly else write_of_new object key) holds.1
+    ∙ ap (λ b. if b then elim (index_of key) [ None ↦ Adds | Some m ↦ if nat_eq m (length object.elements) then Appends else Sparse ] else Adds) holds.0
+    ∙ ap (λ i. elim i [ None ↦ Adds | Some m ↦ if nat_eq m (length object.elements) then Appends else Sparse ]) (index_read n small)
+    ∙ ap (λ b. if b then Appends else Sparse) holds.3
+
+-- what is given back
+pub back_is : (t : Bool) (r : Option Value) (v w : Value) → r ≡ (if t then None else Some v) → r ≡ Some w → w ≡ v
+back_is true r v w answer is = absurd cc
+back_is false r v w answer is = cc

@@ -1,3 +1,5 @@
+pub mod IndexLemmas
+pub mod KeyedLemmas
 pub mod Lists
 pub mod MaskLemmas
 pub mod ObjectLemmas

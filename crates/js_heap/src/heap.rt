@@ -57,10 +57,10 @@ impl Drop for Heap {
 }
 
 impl Heap {
-    ghost use Rattle.std.specs.Prelude.{◌≡◌, ◌-◌, ◌^◌, ◌&&◌, not, [], ◌∷◌, ◌++◌, IfOk, IfSome, IfNone, OnSome, OnOk, OnErr, Some, None, map, option_map, length, nat_lt, pos, slice_get, if◌then◌else◌};
+    ghost use Rattle.std.specs.Prelude.{◌≡◌, ◌<◌, ◌-◌, ◌^◌, ◌&&◌, true, not, [], ◌∷◌, ◌++◌, IfOk, IfSome, IfNone, OnSome, OnOk, OnErr, Some, None, map, option_map, length, nat_lt, pos, slice_get, if◌then◌else◌};
     ghost use Rattle.std.specs.Option.{option_copied};
     ghost use Rattle.js_value.specs.Numbers.{decimal_text};
-    ghost use Rattle.js_value.specs.Objects.{object_at, kind_of, is_array, next_object, new_object, new_array, own, found, get, has_property, inherits, keys, define, freeze, elements_of, with_elements, append, cut, write_of, write_of_absent, set, Done, set_answer, delete, delete_answer};
+    ghost use Rattle.js_value.specs.Objects.{object_at, kind_of, is_array, next_object, new_object, new_array, own, found, get, has_property, inherits, keys, define, freeze, elements_of, with_elements, append, cut, write_of, write_of_absent, set, Done, Appends, set_answer, delete, delete_answer};
     ghost use Rattle.js_value.specs.Texts.{own_of_text, keys_of_text, get_of_text, delete_of_text};
     ghost use Rattle.js_value.specs.Environments.{environment_at, place_of, next_environment, new_environment, copy_environment, declare, lookup, value_of, init, assign, assign_answer, init_name, assign_name, name_answer};
     ghost use Rattle.js_heap.specs.Object.{plain_kind, plain_set, plain_delete, property_with};
@@ -228,7 +228,7 @@ impl Heap {
 
     /// Gives the element of an array at an index the value, where the array isn't frozen and has one: that writes the property of
     /// the index's key, without the key. Else the value is given back, and nothing changes.
-    pub fn put_element(&mut self, object: Object, index: u64, value: Value) -> Option<Value>
+    fn put_element(&mut self, object: Object, index: u64, value: Value) -> Option<Value>
         ensures answer { result ≡ (if is_array (kind_of (heap_of self.old) object.index)
             && not (object_at (heap_of self.old) object.index).frozen && nat_lt index (2 ^ 32 - 1)
             && nat_lt index (length (elements_of (heap_of self.old) object.index)) then None else Some value) }
@@ -239,6 +239,77 @@ impl Heap {
         match self.objects.get_mut(object.index() as usize) {
             Some(record) => record.put_element(index, value),
             None => Some(value),
+        }
+    }
+
+    /// Writes the object's property of an index's key, without the key where that is an element of an array or one more at its end.
+    /// On want of memory nothing changes.
+    pub fn set_element(&mut self, object: Object, index: u64, value: Value) -> Result<Set, Memory>
+        ensures answer { IfOk result (λ answer. plain_set answer
+            ≡ set_answer (heap_of self.old) object.index (decimal_text (pos index)) value) }
+        ensures ok { OnOk result (heap_of self.new
+            ≡ set object.index (decimal_text (pos index)) value (heap_of self.old)) }
+        ensures err { OnErr result (heap_of self.new ≡ heap_of self.old) }
+    {
+        match self.put_element(object, index, value) {
+            None => Ok(Set::Done),
+            Some(value) => self.set_new_element(object, index, value),
+        }
+    }
+
+    /// The same, of what is no element that is there.
+    fn set_new_element(&mut self, object: Object, index: u64, value: Value) -> Result<Set, Memory>
+        ensures answer { IfOk result (λ answer. plain_set answer
+            ≡ set_answer (heap_of self.old) object.index (decimal_text (pos index)) value) }
+        ensures ok { OnOk result (heap_of self.new
+            ≡ set object.index (decimal_text (pos index)) value (heap_of self.old)) }
+        ensures err { OnErr result (heap_of self.new ≡ heap_of self.old) }
+    {
+        if self.takes_at_end(object, index) {
+            self.append_element(object, value)?;
+            return Ok(Set::Done);
+        }
+        let key = keys::show_index(self.alloc, index as usize)?;
+        self.set(object, &key, value)
+    }
+
+    /// Whether a write of the property of an index's key surely puts one more element at an array's end.
+    fn takes_at_end(&self, object: Object, index: u64) -> bool
+        ensures { result ≡ true → (v : Value) → write_of (heap_of self.now) object.index (decimal_text (pos index)) v ≡ Appends }
+    {
+        self.record(object).ends_at(index) && self.inherits_none(object, index)
+    }
+
+    /// Whether what the object inherits from surely has no property of an index's key.
+    fn inherits_none(&self, object: Object, index: u64) -> bool
+        ensures { result ≡ true → index < 2 ^ 32 - 1 → found object.index (heap_of self.now).objects
+            (object_at (heap_of self.now) object.index).prototype (decimal_text (pos index)) ≡ None }
+    {
+        let mut chain = self.proto(object);
+        for _ in 0..object.index() {
+            let Some(at) = chain else {
+                return true;
+            };
+            let record = self.record(at);
+            if !record.lacks(index) {
+                return false;
+            }
+            chain = record.prototype;
+        }
+        true
+    }
+
+    /// Puts one more element after those of an array. On want of memory nothing changes.
+    fn append_element(&mut self, object: Object, value: Value) -> Result<(), Memory>
+        ensures ok { OnOk result (heap_of self.new ≡ append object.index (value ∷ []) (heap_of self.old)) }
+        ensures err { OnErr result (heap_of self.new ≡ heap_of self.old) }
+    {
+        match self.objects.get_mut(object.index() as usize) {
+            Some(record) => record.elements.push(value),
+            None => {
+                drop(value);
+                Ok(())
+            }
         }
     }
 

@@ -53,7 +53,7 @@ fn put_elements(alloc: Global, keys: &mut Items<Key>, count: usize) -> Result<()
 }
 
 /// The text of an index.
-fn show_index(alloc: Global, index: usize) -> Result<Str, Memory>
+pub fn show_index(alloc: Global, index: usize) -> Result<Str, Memory>
     ensures { IfOk result (λ text. text ≡ decimal_text (pos index)) }
 {
     match i64::try_from(index) {

@@ -1,4 +1,4 @@
-ghost use Rattle.std.specs.Prelude.{◌≡◌, List, ℕ, map, nat_eq};
+ghost use Rattle.std.specs.Prelude.{◌≡◌, map, nat_eq};
 ghost use Rattle.std.specs.Int.{bit_at};
 ghost use Rattle.js_heap.specs.private.Mask.{bit_of, IsMaskOf, Keeps};
 

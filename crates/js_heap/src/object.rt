@@ -1,11 +1,11 @@
-ghost use Rattle.std.specs.Prelude.{◌≡◌, OnOk, OnErr, option_map};
+ghost use Rattle.std.specs.Prelude.{◌≡◌, option_map};
 ghost use Rattle.std.specs.Str.{bytes_eq};
 ghost use Rattle.js_value.specs.Objects.{array_length};
 
 use crate::Env;
 use crate::elements::Elements;
 use crate::properties::Properties;
-use items::{Items, Memory};
+use items::Memory;
 use js_value::{Object, Str, Value, index_of};
 use std::alloc::Global;
 
@@ -127,11 +127,12 @@ impl Drop for ObjectRecord {
 }
 
 impl ObjectRecord {
-    ghost use Rattle.std.specs.Prelude.{[], false, not, ◌&&◌, Some};
+    ghost use Rattle.std.specs.Prelude.{◌<◌, ◌-◌, ◌^◌, [], true, false, not, ◌&&◌, Some, None, pos};
+    ghost use Rattle.js_value.specs.Numbers.{decimal_text};
     ghost use Rattle.std.specs.Option.{option_copied};
     ghost use Rattle.js_value.specs.State.{Array};
     ghost use Rattle.js_value.specs.Objects.{property_of, own_of, own_of_array};
-    ghost use Rattle.js_heap.specs.private.Object.{element_in};
+    ghost use Rattle.js_heap.specs.private.Object.{element_in, ends_at};
     ghost use Rattle.js_heap.specs.Object.{plain_kind, plain_property, plain_object, property_with};
 
     /// An object of no elements and no other properties, which takes no memory.
@@ -207,6 +208,27 @@ impl ObjectRecord {
         match self.kind {
             ObjectKind::Array if index < 0xFFFF_FFFF => self.elements.items.get(index as usize),
             _ => None,
+        }
+    }
+
+    /// Whether this is an array that isn't frozen, whose elements end where this index begins.
+    pub fn ends_at(&self, index: u64) -> bool
+        ensures { result ≡ ends_at (plain_object self.now) index }
+    {
+        matches!(self.kind, ObjectKind::Array)
+            && !self.frozen
+            && index < 0xFFFF_FFFF
+            && index == self.elements.items.len() as u64
+    }
+
+    /// Whether this surely has no property of an index's key: an array that has no such element, another object none of whose
+    /// keys is an index.
+    pub fn lacks(&self, index: u64) -> bool
+        ensures { result ≡ true → index < 2 ^ 32 - 1 → own_of (plain_object self.now) (decimal_text (pos index)) ≡ None }
+    {
+        match self.kind {
+            ObjectKind::Array => index >= self.elements.items.len() as u64,
+            _ => self.properties.lacks_indices(),
         }
     }
 

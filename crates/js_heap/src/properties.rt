@@ -1,13 +1,15 @@
-ghost use Rattle.std.specs.Prelude.{◌≡◌, [], ◌∷◌, ◌++◌, map, filter, not, IfOk};
+ghost use Rattle.std.specs.Prelude.{◌≡◌, [], ◌∷◌, ◌++◌, true, false, ◌||◌, is_some, map, filter, not, IfOk};
 ghost use Rattle.std.specs.Option.{ForSome};
 ghost use Rattle.std.specs.Str.{bytes_eq};
 ghost use Rattle.indexmap.specs.IndexSet.{keys};
+ghost use Rattle.js_value.specs.Key as spec;
+ghost use Rattle.js_heap.specs.private.Keys.{NoIndices};
 
 use crate::elements::write_over;
 use crate::object::Property;
 use indexmap::IndexSet;
 use items::Memory;
-use js_value::{Str, Value};
+use js_value::{Str, Value, index_of as index_by};
 use std::alloc::Global;
 
 /// How many properties are looked for along their list.
@@ -15,20 +17,33 @@ const FEW: usize = 8;
 
 /// The properties of an object that are no elements, in the order in which they were added. A few of
 /// them are looked for along their list, which is quick and takes the least memory. From 9 on their
-/// keys also stand in an index, each at its property's place.
+/// keys also stand in an index, each at its property's place. Where no key was an index of an array's element, it is told.
 pub struct Properties {
     pub(crate) items: Vec<Property>,
+    has_indices: bool,
     index: Option<Box<IndexSet<Str>>>,
+    ghost unindexed: { has_indices ≡ false → NoIndices (map (λ p. p.key) items.items) },
     ghost indexed: { ForSome index (λ i. keys i.value ≡ map (λ p. p.key) items.items) },
 }
 
 impl Drop for Properties {
     // Written out, so that what drops one calls this and needn't prove it again.
     fn drop(self) {
-        let Properties { items, index } = self;
+        let Properties {
+            items,
+            has_indices: _,
+            index,
+        } = self;
         drop(items);
         drop(index);
     }
+}
+
+/// Whether some of these keys are indices, or one more is.
+fn with_index(has_indices: bool, key: &Str) -> bool
+    ensures { result ≡ (has_indices || is_some (spec.index_of key.now)) }
+{
+    has_indices || index_by(key.as_slice()).is_some()
 }
 
 /// The index of these properties. There is none where two have one key.
@@ -75,6 +90,7 @@ impl Properties {
     {
         Properties {
             items: Vec::new(alloc),
+            has_indices: false,
             index: None,
         }
     }
@@ -96,6 +112,13 @@ impl Properties {
         }
     }
 
+    /// Whether surely no key is an index.
+    pub fn lacks_indices(&self) -> bool
+        ensures { result ≡ true → NoIndices (map (λ p. p.key) self.now.items.items) }
+    {
+        !self.has_indices
+    }
+
     /// Puts one more property after the others. On want of memory nothing changes.
     pub fn push(&mut self, property: Property) -> Result<(), Memory>
         ensures ok { OnOk result (self.new.items.items ≡ self.old.items.items ++ property ∷ []) }
@@ -103,6 +126,7 @@ impl Properties {
     {
         self.items.reserve(1)?;
         let index = self.index_with(&property.key)?;
+        self.has_indices = with_index(self.has_indices, &property.key);
         self.items.push_reserved(property);
         self.index = index;
         Ok(())

@@ -1,6 +1,6 @@
 // Writes to an object's properties (ECMA-262, 10.1.9 and 10.4.2).
 
-ghost use Rattle.std.specs.Prelude.{◌≡◌, ℕ, List, Some, None, IfOk, OnOk, OnErr, length, if◌then◌else◌};
+ghost use Rattle.std.specs.Prelude.{◌≡◌, ℕ, List, Some, None, IfOk, OnOk, OnErr, if◌then◌else◌};
 ghost use Rattle.js_value.specs.Objects as spec;
 ghost use Rattle.js_value.specs.State as state;
 ghost use Rattle.js_heap.specs.Object.{plain_object, plain_set};

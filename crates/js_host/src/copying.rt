@@ -1,6 +1,7 @@
 // Own enumerable properties of objects, written to another one (ECMA-262, 20.1.2.1).
 
-ghost use Rattle.std.specs.Prelude.{◌≡◌, IfOk, Ok, Err, Some, None};
+ghost use Rattle.std.specs.Prelude.{◌≡◌, ◌-◌, ◌^◌, ◌<◌, IfOk, Ok, Err, Some, None, pos};
+ghost use Rattle.js_value.specs.Numbers.{decimal_text};
 ghost use Rattle.js_value.specs.Copying as spec;
 ghost use Rattle.js_heap.specs.Heap.{heap_of};
 ghost use Rattle.js_data.specs.Does.{Does};
@@ -73,6 +74,19 @@ pub fn write(heap: &mut Heap, object: Object, key: &Str, value: Value) -> Result
 {
     let value = taken(heap, object, key, value)?;
     write_taken(heap, object, key, value)
+}
+
+/// The same of the property of an index's key, without the key where that is an element of an array or one more at its end.
+pub fn write_element(heap: &mut Heap, object: Object, index: u64, value: Value) -> Result<(), Halt>
+    requires small { index < 2 ^ 32 - 1 }
+    ensures { HaltsAs (spec.write object.index (decimal_text (pos index)) value (heap_of heap.old)) (heap_of heap.new) result }
+{
+    match heap.set_element(object, index, value)? {
+        Set::Done => Ok(()),
+        Set::ReadOnly => Err(Halt::Throw(Complaint::ReadOnly)),
+        Set::Sparse => Err(Halt::Refuse(Kind::Sparse)),
+        Set::BadLength => Err(Halt::Throw(Complaint::BadLength)),
+    }
 }
 
 /// A value as it is written to a property: to the length of an array, a number (10.4.2.4).

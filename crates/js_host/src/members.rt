@@ -1,18 +1,17 @@
 // Members of values, and what operators see in objects (ECMA-262, 6.2.5.5, 6.2.5.6, 13.5.1.2, 13.5.3 and 13.10).
 
-ghost use Rattle.std.specs.Prelude.{◌≡◌, IfOk, Ok, IfSome, IfNone, OnSome, is_none, option_map};
+ghost use Rattle.std.specs.Prelude.{◌≡◌, IfOk, Ok};
 ghost use Rattle.js_value.specs.Members as spec;
 ghost use Rattle.js_value.specs.OnObjects.{or_undefined};
-ghost use Rattle.js_value.specs.Copying.{goes_on};
 ghost use Rattle.js_value.specs.Realm.{text};
 ghost use Rattle.js_heap.specs.Heap.{heap_of};
 ghost use Rattle.js_data.specs.Does.{Does};
 ghost use Rattle.js_host.specs.Halts.{HaltsAs};
 ghost use Rattle.js_host.specs.private.Coerced.{coerced};
-ghost use Rattle.js_host.specs.private.Elements.{natural, element_by, takes_by};
+ghost use Rattle.js_host.specs.private.Elements.{natural, element_by};
 ghost use Rattle.std.specs.Option.{option_copied};
 
-use crate::copying::write;
+use crate::copying::{write, write_element};
 use crate::values::is_function;
 use items::Memory;
 use js_data::text;
@@ -130,7 +129,7 @@ fn copied(value: Option<&Value>) -> Result<Option<Value>, Memory>
 }
 
 /// Writes a member of a value (6.2.5.6). An error is what stopped it. The key is not taken for a text where it tells an element of
-/// an array that may be written.
+/// an array that may be written, or one more at its end.
 pub fn put_member(
     alloc: Global,
     heap: &mut Heap,
@@ -140,22 +139,11 @@ pub fn put_member(
 ) -> Result<(), Halt>
     ensures { HaltsAs (spec.put_member base.now key.now value (heap_of heap.old)) (heap_of heap.new) result }
 {
-    match put_element(heap, base, key, value) {
-        None => Ok(()),
-        Some(value) => put_by_key(alloc, heap, base, key, value),
-    }
-}
-
-/// Gives the element of an array that a number tells the value, where there is one that may be written; else gives the value back.
-fn put_element(heap: &mut Heap, base: &Value, key: &Value, value: Value) -> Option<Value>
-    ensures answer { is_none result ≡ takes_by (heap_of heap.old) base.now key.now }
-    ensures back { IfSome result (λ back. back ≡ value) }
-    ensures kept { OnSome result (heap_of heap.new ≡ heap_of heap.old) }
-    ensures put { IfNone result (spec.put_member base.now key.now value (heap_of heap.old) ≡ goes_on (heap_of heap.new)) }
-{
     match (base, index_by(key)) {
-        (Value::Object(array), Some(index)) => heap.put_element(*array, index, value),
-        _ => Some(value),
+        (Value::Object(object), Some(index)) if index < 0xFFFF_FFFF => {
+            write_element(heap, *object, index, value)
+        }
+        _ => put_by_key(alloc, heap, base, key, value),
     }
 }
 

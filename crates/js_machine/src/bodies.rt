@@ -17,8 +17,8 @@ ghost use Rattle.js_machine.specs.private.Weight.{place_weight, control_weight};
 
 use crate::data::{Control, Task};
 use crate::lists::list_of;
-use crate::parts::Labels;
 use crate::scopes::enter_body;
+use crate::statements::execute;
 use items::Memory;
 use js_code::{BodyScope, Code, ListKind, Node};
 use js_heap::{Env, Heap};
@@ -87,11 +87,7 @@ fn execute_all(alloc: Global, code: &Code, place: usize, env: Env) -> Control
     match list_of(code.node(place), ListKind::Stmts) {
         Some((first, rest)) => match list_of(code.node(rest), ListKind::Stmts) {
             Some(_) => Control::Begin(Task::ExecuteAll { place, env }),
-            None => Control::Begin(Task::Execute {
-                place: first,
-                labels: Labels::new(alloc),
-                env,
-            }),
+            None => execute(alloc, first, env),
         },
         None => Control::Begin(Task::ExecuteAll { place, env }),
     }

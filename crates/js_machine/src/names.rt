@@ -1,6 +1,6 @@
 // The names that nodes have.
 
-ghost use Rattle.std.specs.Prelude.{◌≡◌, [], map, codes, IfOk};
+ghost use Rattle.std.specs.Prelude.{◌≡◌, [], codes, IfOk};
 ghost use Rattle.std.specs.Str.{bytes_eq};
 ghost use Rattle.js_value.specs.Functions.{name_units};
 ghost use Rattle.js_code.specs.Code.{node_at};

@@ -5,7 +5,7 @@ ghost use Rattle.js_machine.specs.private.Config.{View, pending_comp};
 ghost use Rattle.js_machine.specs.private.Weight.{Weights, pending_weight};
 ghost use Rattle.js_machine.specs.private.Frames.{ComesTo, Lighter};
 
-use crate::data::{Action, Control, Entry, Frame, Pending, Task};
+use crate::data::{Action, Control, Frame, Pending, Task};
 use crate::frames::push;
 use crate::operators::{
     choose, choose_statement, key_text, logical, next_param, subject, take_pass, template_text,

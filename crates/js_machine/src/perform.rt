@@ -1,23 +1,18 @@
 // What is done to the store.
 
-ghost use Rattle.std.specs.Prelude.{◌≡◌, ◌<◌, ◌+◌, Some, IfOk, OnOk};
-ghost use Rattle.js_tree.specs.Plain as P;
+ghost use Rattle.std.specs.Prelude.{◌≡◌, ◌<◌, Some, IfOk, OnOk};
 ghost use Rattle.js_value.specs.Functions.{closed};
 ghost use Rattle.js_value.specs.Host.{error_made, error_of, message_of};
 ghost use Rattle.js_value.specs.Objects.{next_object};
 ghost use Rattle.js_value.specs.Realm.{object as object_of};
 ghost use Rattle.js_heap.specs.Heap.{heap_of};
 ghost use Rattle.js_code.specs.Code.{reader};
-ghost use Rattle.js_code.specs.Node.{arrow_body};
 ghost use Rattle.js_code.specs.Part.{as_code};
-ghost use Rattle.js_code.specs.Scopes.{code_names};
-ghost use Rattle.js_meaning.specs.Files.{in_body};
-ghost use Rattle.js_meaning.specs.Meaning.{comp_concise};
-ghost use Rattle.js_meaning.specs.Scopes.{body_scope, shape_of};
+ghost use Rattle.js_meaning.specs.Scopes.{shape_of};
 ghost use Rattle.js_value.specs.State.{Store};
 ghost use Rattle.js_code.specs.Program.{IsCodeOf};
 ghost use Rattle.js_meaning.specs.Program.{Sources};
-ghost use Rattle.js_machine.specs.private.Config.{View, view_of, action_comp, control_comp, form_code, title_in};
+ghost use Rattle.js_machine.specs.private.Config.{view_of, action_comp, control_comp, form_code, title_in};
 ghost use Rattle.js_machine.specs.private.State.{store_in, Becomes, Turns};
 ghost use Rattle.js_machine.specs.private.Weight.{Weights, place_weight, action_weight, control_weight};
 
@@ -38,7 +33,7 @@ use crate::scope_actions::{
 };
 use crate::state::State;
 use items::{Items, Memory};
-use js_code::{BodyScope, Code, Node};
+use js_code::Code;
 use js_heap::{Env, Heap, ObjectKind};
 use js_host::object_at;
 use js_meaning::Completion;

@@ -8,14 +8,14 @@ ghost use Rattle.js_code.specs.Node.{build, function_of};
 ghost use Rattle.js_code.specs.Part.{as_code, as_expr};
 ghost use Rattle.js_meaning.specs.Effects.{handle};
 ghost use Rattle.js_meaning.specs.Meaning as M;
-ghost use Rattle.js_machine.specs.private.Config.{View, name_of, control_comp, frame_comp, pending_comp, reference_of, referred, otherwise, units_of, expr_at};
+ghost use Rattle.js_machine.specs.private.Config.{View, name_of, control_comp, reference_of, referred, otherwise, units_of, expr_at};
 ghost use Rattle.js_machine.specs.private.Weight.{Weights, node_weight, referring_weight, control_weight};
 ghost use Rattle.js_machine.specs.private.Frames.{ComesTo, Lighter};
 
 use crate::copies::copy_reference;
 use crate::data::{Action, Control, Frame, Pending, Task};
 use crate::frames::push;
-use crate::parts::{Form, MemberKey, Reference, Referring, Title};
+use crate::parts::{Form, Reference, Referring, Title};
 use items::Memory;
 use js_code::{Node, SharedIdentifier};
 use js_heap::Env;

@@ -2,7 +2,7 @@
 
 ghost use Rattle.std.specs.Prelude.{◌≡◌, ◌<◌, ◌+◌, ◌*◌, IfOk};
 ghost use Rattle.js_meaning.specs.Files as F;
-ghost use Rattle.js_machine.specs.private.Config.{View, frame_comp, pending_comp, control_comp};
+ghost use Rattle.js_machine.specs.private.Config.{View, frame_comp, control_comp};
 ghost use Rattle.js_machine.specs.private.Weight.{Weights, frame_weight, pending_weight, control_weight};
 ghost use Rattle.js_machine.specs.private.Frames.{ComesTo, Lighter};
 

@@ -3,7 +3,6 @@
 ghost use Rattle.std.specs.Prelude.{◌≡◌, ◌∷◌, ◌++◌, [], IfOk, OnOk, map};
 ghost use Rattle.std.specs.Option.{option_copied};
 ghost use Rattle.js_value.specs.Environments.{next_environment, declare_all};
-ghost use Rattle.js_value.specs.Objects.{next_object};
 ghost use Rattle.js_heap.specs.Environment.{plain_binding};
 ghost use Rattle.js_heap.specs.Heap.{heap_of};
 ghost use Rattle.js_meaning.specs.Scopes.{first_value, hoisted, scope_made, stands_in, value_or, variable_of};

@@ -1,7 +1,6 @@
 // What a statement begins with.
 
 ghost use Rattle.std.specs.Prelude.{◌≡◌, ◌<◌, ◌+◌, ◌*◌, [], ◌∷◌, Option, IfOk, option_map};
-ghost use Rattle.js_terms.specs.declared.place.Loc.{Loc};
 ghost use Rattle.js_tree.specs.Plain as P;
 ghost use Rattle.js_code.specs.Node.{build};
 ghost use Rattle.js_code.specs.Part.{as_catch, as_declarators, as_for_init, as_stmt};
@@ -238,8 +237,8 @@ pub fn begin_statements(
     }
 }
 
-// A statement without labels.
-fn execute(alloc: Global, place: usize, env: Env) -> Control
+/// A statement without labels begins.
+pub fn execute(alloc: Global, place: usize, env: Env) -> Control
     ensures { result ≡ Control.Begin (Task.Execute place [] env) }
 {
     Control::Begin(Task::Execute {

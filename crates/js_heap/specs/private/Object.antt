@@ -1,5 +1,5 @@
 -- What a call does to one object.
-use Rattle.std.specs.Prelude.{ℕ, zero, suc, ◌-◌, ◌^◌, nat_lt, Bool, not, ◌&&◌, List, [], ◌∷◌, ◌++◌, length, Option, Some, None, take, slice_get, slice_set, if◌then◌else◌}
+use Rattle.std.specs.Prelude.{ℕ, zero, suc, ◌-◌, ◌^◌, nat_lt, nat_eq, Bool, not, ◌&&◌, List, [], ◌∷◌, ◌++◌, length, Option, Some, None, take, slice_get, slice_set, if◌then◌else◌}
 use Rattle.std.specs.Str.{bytes_eq}
 use Rattle.js_value.specs.declared.value.Value.{Value}
 use Rattle.js_value.specs.State as state
@@ -13,6 +13,10 @@ element_in object index = if is_array object.kind && nat_lt index (2 ^ 32 - 1) t
 -- whether there is one that may be written
 abbrev pub takes_element : state.ObjectRecord → ℕ → Bool
 takes_element object index = is_array object.kind && not object.frozen && nat_lt index (2 ^ 32 - 1) && nat_lt index (length object.elements)
+
+-- whether one may be put at the end by an index
+abbrev pub ends_at : state.ObjectRecord → ℕ → Bool
+ends_at object index = is_array object.kind && not object.frozen && nat_lt index (2 ^ 32 - 1) && nat_eq index (length object.elements)
 
 -- the object with another value for it, where there is
 abbrev pub with_element : ℕ → Value → state.ObjectRecord → state.ObjectRecord

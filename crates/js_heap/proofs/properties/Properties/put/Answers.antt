@@ -1,4 +1,5 @@
-use Rattle.std.proofs.Common.{◌≤◌, length, refl, sym, ap, ◌∙◌, arith}
+use Rattle.std.proofs.Common.{◌≤◌, length, position, refl, sym, ap, ◌∙◌, arith}
+use Rattle.std.specs.Str.{bytes_eq}
 use Rattle.js_heap.specs.declared.object.Property.{Property}
 use Rattle.js_heap.specs.Object.{plain_property}
 use Rattle.js_heap.proofs.Lists.{map-set_same}
@@ -9,6 +10,7 @@ pub invariant_of-self : goal.invariant_of-self
 invariant_of-self c =
     let x : Property = record { key = c.in-Some.property.now.key; value = c.write_over.new.held; flags = c.in-Some.property.now.flags } in
     record {
+      unindexed = λ none q is. ap (position (λ k. bytes_eq k q)) (map-set_same (λ (p : Property). p.key) c.args.self.now.items.items c.args.place c.args.place x c.in-Some.property.now x.key refl c.in-Some.ensures.item.3.0 c.in-Some.ensures.value refl) ∙ c.args.self.now.unindexed none q is;
       indexed = λ i is. c.args.self.now.indexed i is
           ∙ sym (map-set_same (λ (p : Property). p.key) c.args.self.now.items.items c.args.place c.args.place x c.in-Some.property.now x.key refl c.in-Some.ensures.item.3.0 c.in-Some.ensures.value refl);
     }
