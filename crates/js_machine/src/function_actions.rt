@@ -17,7 +17,7 @@ use crate::names::Words;
 use crate::parts::Form;
 use crate::scopes::make_scope;
 use items::{Items, Memory};
-use js_code::{Code, Node};
+use js_code::{BodyScope, Code, Node};
 use js_heap::{Binding, Env, Flags, Heap, ObjectKind};
 use js_host::{Shape, ascii, error_of, error_prototype, make_function, message_of};
 use js_names::SharedName;
@@ -82,26 +82,57 @@ pub fn start_call(
         ≡ call_made (this_of_call this) (param_names (params_of (as_code (reader code.now.nodes function)))) env.index (heap_of heap.old)) }
     ensures environment { IfOk result (λ inner. inner.index ≡ next_environment (heap_of heap.old)) }
 {
-    let mut names = this_names(alloc, words, this)?;
+    let mut names = this_names(alloc, words, this, names_of(code, function))?;
     put_params(code, function, &mut names)?;
     make_scope(heap, names, env)
 }
 
-// The name `this`, if there is one.
-fn this_names(alloc: Global, words: &Words, this: Option<Value>) -> Result<Items<Binding>, Memory>
-    ensures { IfOk result (λ names. map plain_binding names ≡ this_of_call this) }
-{
-    match this {
-        None => Ok(Items::new(alloc)),
-        Some(this) => bound_this(alloc, words, this),
+// How many names a call makes besides `this`: a matter of memory alone.
+fn names_of(code: &Code, function: usize) -> usize {
+    match code.node(function) {
+        Node::Function { scope, .. } => names_in(scope),
+        Node::ArrowExpression { scope, .. } => names_in(scope),
+        Node::ArrowBlock { scope, .. } => names_in(scope),
+        _ => 0,
     }
 }
 
-// The name `this` with a value.
-fn bound_this(alloc: Global, words: &Words, this: Value) -> Result<Items<Binding>, Memory>
+// How many the parameters are, and what the body has beside them.
+fn names_in(scope: &BodyScope) -> usize {
+    let params = scope.params.len();
+    if scope.apart {
+        return params;
+    }
+    params
+        .saturating_add(scope.variables.len())
+        .saturating_add(scope.lexical.len())
+}
+
+// The name `this`, if there is one, with room for so many more.
+fn this_names(
+    alloc: Global,
+    words: &Words,
+    this: Option<Value>,
+    more: usize,
+) -> Result<Items<Binding>, Memory>
+    ensures { IfOk result (λ names. map plain_binding names ≡ this_of_call this) }
+{
+    match this {
+        None => Ok(Items::from_vec(Vec::with_capacity(alloc, more)?)),
+        Some(this) => bound_this(alloc, words, this, more),
+    }
+}
+
+// The name `this` with a value, with room for so many more.
+fn bound_this(
+    alloc: Global,
+    words: &Words,
+    this: Value,
+    more: usize,
+) -> Result<Items<Binding>, Memory>
     ensures { IfOk result (λ names. map plain_binding names ≡ this_bound this) }
 {
-    let mut names = Items::new(alloc);
+    let mut names = Items::from_vec(Vec::with_capacity(alloc, more.saturating_add(1))?);
     names.push(Binding {
         name: words.this().copy()?,
         value: Some(this),

@@ -179,7 +179,7 @@ fn kind_names(
 fn one_name(alloc: Global, name: &SharedName, constant: bool) -> Result<Items<Binding>, Memory>
     ensures { IfOk result (λ names. map plain_binding names ≡ uninitialized constant name.now ∷ []) }
 {
-    let mut names = Items::new(alloc);
+    let mut names = Items::from_vec(Vec::with_capacity(alloc, 1)?);
     names.push(Binding {
         name: name.copy()?,
         value: None,

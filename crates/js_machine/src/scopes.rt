@@ -47,7 +47,7 @@ pub fn make_scope(heap: &mut Heap, names: Items<Binding>, env: Env) -> Result<En
 pub fn bindings(alloc: Global, names: &[NewName]) -> Result<Items<Binding>, Memory>
     ensures { IfOk result (λ made. map plain_binding made ≡ names.now) }
 {
-    let mut made = Items::new(alloc);
+    let mut made = Items::from_vec(Vec::with_capacity(alloc, names.len())?);
     for name in names {
         made.push(Binding {
             name: name.name().copy()?,
