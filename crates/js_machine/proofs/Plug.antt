@@ -1,16 +1,31 @@
 -- The frames round a computation.
 use Rattle.std.proofs.Common.{◌≡◌, ℕ, suc, ◌+◌, List, [], ◌∷◌, ◌++◌, refl, sym, ap, ◌∙◌, arith}
+use Rattle.std.proofs.Math.Path.{fun_ext}
 use Rattle.js_value.specs.State.{Store}
 use Rattle.js_value.specs.declared.value.Kind.{Kind}
 use Rattle.js_meaning.specs.declared.outcome.Completion.{Completion}
+use Rattle.js_meaning.specs.declared.outcome.Completion.TheVariants as completion
 use Rattle.js_meaning.specs.declared.outcome.Outcome.TheVariants.{Stops}
 use Rattle.js_meaning.specs.Effects as E
 use Rattle.js_meaning.specs.Effects.{Comp, ret, refuse, enter, handle, ran, exec}
+use Rattle.js_meaning.specs.Meaning.{done, with_value}
 use Rattle.js_meaning.proofs.Handle.{handle_again, handle_ret}
 use Rattle.js_machine.specs.declared.data.Frame.{Frame}
 use Rattle.js_machine.specs.private.Config.{View, frame_comp, plug}
 use Rattle.js_machine.specs.private.Weight.{Weights, frame_weight, frames_weight}
 use Rattle.js_machine.specs.private.State.{Becomes}
+
+-- a value that is passed over, before what doesn't look at it
+module _ (rest : Comp) where
+  passed : (o : Completion) → handle (with_value (λ v. done) o) (with_value (λ v. rest)) ≡ with_value (λ v. rest) o
+  passed (completion.Normal v) = refl
+  passed (completion.Break label) = refl
+  passed (completion.Continue label) = refl
+  passed (completion.Return v) = refl
+  passed (completion.Throw v) = refl
+
+  pub discarded : (c : Comp) → handle (handle c (with_value (λ v. done))) (with_value (λ v. rest)) ≡ handle c (with_value (λ v. rest))
+  discarded c = handle_again c (with_value (λ v. done)) (with_value (λ v. rest)) ∙ ap (handle c) (fun_ext passed)
 
 module _ (t : View) where
   pub plug_push : (fs : List Frame) (f : Frame) (c : Comp) → plug t (fs ++ f ∷ []) c ≡ plug t fs (handle c (frame_comp t f))

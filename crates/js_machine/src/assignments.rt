@@ -161,7 +161,7 @@ fn get_by_key(
     }
 }
 
-/// A number one more or one less, for a reference: the new number is given or the old one.
+/// A number one more or one less, for the reference that an expression is.
 pub fn update(
     alloc: Global,
     code: &Code,
@@ -176,9 +176,29 @@ pub fn update(
         Turns (M.comp_reference p (expr_at (view_of p code.now.nodes) target) env.index otherwise (M.updates prefix operator env.index)) heap.old (done_comp done) heap.new)) }
     ensures none { result ≡ Ok None → heap_of heap.new ≡ heap_of heap.old }
 {
-    let Some(reference) = refer(alloc, code, words, heap, target, env)? else {
-        return Ok(None);
-    };
+    match refer(alloc, code, words, heap, target, env)? {
+        Some(reference) => update_reference(
+            alloc, code, words, heap, prefix, operator, reference, env,
+        ),
+        None => Ok(None),
+    }
+}
+
+/// A number one more or one less, for a reference: the new number is given or the old one.
+pub fn update_reference(
+    alloc: Global,
+    code: &Code,
+    words: &Words,
+    heap: &mut Heap,
+    prefix: bool,
+    operator: UpdateOperator,
+    reference: Reference,
+    env: Env,
+) -> Result<Option<Done>, Memory>
+    ensures turns { IfOk result (λ found. IfSome found (λ done. (p : Sources) →
+        Turns (M.updates prefix operator env.index (reference_of (view_of p code.now.nodes) reference)) heap.old (done_comp done) heap.new)) }
+    ensures none { result ≡ Ok None → heap_of heap.new ≡ heap_of heap.old }
+{
     let Some(old) = get_number(alloc, code, words, heap, &reference, env)? else {
         return Ok(None);
     };

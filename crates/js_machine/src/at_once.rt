@@ -5,20 +5,21 @@ ghost use Rattle.js_heap.specs.Heap.{heap_of};
 ghost use Rattle.js_meaning.specs.Effects.{handle};
 ghost use Rattle.js_meaning.specs.Meaning as M;
 ghost use Rattle.js_meaning.specs.Program.{Sources};
-ghost use Rattle.js_machine.specs.private.Config.{View, view_of, control_comp, expr_at, expr_if, labels_of, stmt_at, stmts_at, task_comp};
+ghost use Rattle.js_machine.specs.private.Config.{View, view_of, control_comp, expr_at, expr_if, labels_of, reference_of, referred, stmt_at, stmts_at, task_comp};
 ghost use Rattle.js_machine.specs.private.AtOnce.{done_comp};
 ghost use Rattle.js_machine.specs.private.State.{Turns};
-ghost use Rattle.js_machine.specs.private.Weight.{Weights, place_weight, task_weight, control_weight};
+ghost use Rattle.js_machine.specs.private.Weight.{Weights, place_weight, referring_weight, task_weight, control_weight};
 
-use crate::assignments::{assign, update};
+use crate::assignments::{assign, update, update_reference};
 use crate::choices::{choose_expression, choose_one, choose_operand, choose_turn, return_operand};
+use crate::copies::copy_reference;
 use crate::data::{Action, Control, Task};
 use crate::expressions::operator_of;
 use crate::lists::{list_of, there};
 use crate::names::Words;
 use crate::operand_calls::call_of_operands;
 use crate::operands::{LEVELS, operand};
-use crate::parts::Labels;
+use crate::parts::{Labels, Reference, Referring};
 use crate::scope_actions::enter_block;
 use crate::steps::undefined;
 use items::Memory;
@@ -103,6 +104,38 @@ fn other_task(
             labels,
             env,
         } => test_task(alloc, code, words, heap, *test, *statement, labels, *env),
+        Task::Referred {
+            next,
+            env,
+            reference,
+        } => referred_task(alloc, code, words, heap, next, reference, *env),
+        _ => Ok(None),
+    }
+}
+
+// What is done with a reference that is there: a number that it is becomes one more or one less.
+fn referred_task(
+    alloc: Global,
+    code: &Code,
+    words: &Words,
+    heap: &mut Heap,
+    next: &Referring,
+    reference: &Reference,
+    env: Env,
+) -> Result<Option<Control>, Memory>
+    ensures turns { IfOk result (λ found. IfSome found (λ control. (p : Sources) →
+        Turns (referred (view_of p code.now.nodes) next.now env.index (reference_of (view_of p code.now.nodes) reference.now)) heap.old (control_comp (view_of p code.now.nodes) control) heap.new)) }
+    ensures less { IfOk result (λ found. IfSome found (λ control. (w : Weights) → control_weight w control < referring_weight w next.now)) }
+    ensures none { result ≡ Ok None → heap_of heap.new ≡ heap_of heap.old }
+{
+    match next {
+        Referring::Update { prefix, operator } => {
+            let same = copy_reference(reference)?;
+            match update_reference(alloc, code, words, heap, *prefix, *operator, same, env)? {
+                Some(done) => Ok(Some(given(done))),
+                None => Ok(None),
+            }
+        }
         _ => Ok(None),
     }
 }

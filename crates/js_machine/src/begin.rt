@@ -278,7 +278,15 @@ fn execute_all(
     ensures less { IfOk result (λ control. Lighter place_weight frames.old.items (place_weight place) frames.new.items control) }
 {
     match list_of(code.node(place), ListKind::Stmts) {
-        Some((first, rest)) => begin_statements(alloc, frames, first, rest, code.node(rest), env),
+        Some((first, rest)) => begin_statements(
+            alloc,
+            frames,
+            code.node(first),
+            first,
+            rest,
+            code.node(rest),
+            env,
+        ),
         None => Ok(undefined()),
     }
 }

@@ -1,10 +1,10 @@
 // What a statement begins with.
 
-ghost use Rattle.std.specs.Prelude.{◌≡◌, ◌<◌, ◌+◌, ◌*◌, [], ◌∷◌, Option, IfOk, option_map};
+ghost use Rattle.std.specs.Prelude.{◌≡◌, ◌<◌, ◌≤◌, ◌+◌, ◌*◌, [], ◌∷◌, Option, IfOk, option_map};
 ghost use Rattle.js_tree.specs.Plain as P;
 ghost use Rattle.js_code.specs.Node.{build};
 ghost use Rattle.js_code.specs.Part.{as_catch, as_declarators, as_for_init, as_stmt};
-ghost use Rattle.js_meaning.specs.Effects.{handle};
+ghost use Rattle.js_meaning.specs.Effects.{Comp, handle};
 ghost use Rattle.js_meaning.specs.Meaning as M;
 ghost use Rattle.js_machine.specs.private.Config.{View, name_of, labels_of, expr_or, stmt_at, stmts_at, control_comp, frame_comp};
 ghost use Rattle.js_machine.specs.private.Weight.{Weights, node_weight, control_weight, declarator_weight, frame_weight, frames_weight};
@@ -219,21 +219,37 @@ fn copied(alloc: Global, label: &Option<SharedIdentifier>) -> Result<Option<Name
 pub fn begin_statements(
     alloc: Global,
     frames: &mut Vec<Frame>,
+    node: &Node,
     first: usize,
     rest: usize,
     after: &Node,
     env: Env,
 ) -> Result<Control, Memory>
-    ensures means { IfOk result (λ control. (t : View) → t.tree rest ≡ build t.tree after.now →
+    ensures means { IfOk result (λ control. (t : View) → t.tree first ≡ build t.tree node.now → t.tree rest ≡ build t.tree after.now →
         ComesTo t frames.old.items (M.comp_stmts t.program (P.more_stmt (stmt_at t first) (stmts_at t rest)) env.index) frames.new.items control) }
-    ensures less { IfOk result (λ control. (w : Weights) → Lighter w frames.old.items (w first + w rest + 2) frames.new.items control) }
+    ensures less { IfOk result (λ control. (w : Weights) → node_weight w node.now < w first → Lighter w frames.old.items (w first + w rest + 2) frames.new.items control) }
 {
     match list_of(after, ListKind::Stmts) {
         Some(_) => {
             push(frames, Frame::Value(Pending::Statement { rest, env }))?;
-            Ok(execute(alloc, first, env))
+            Ok(begin_first(alloc, node, first, env))
         }
         None => Ok(execute(alloc, first, env)),
+    }
+}
+
+// A statement that others follow, which don't look at its value: an expression begins by itself.
+fn begin_first(alloc: Global, node: &Node, place: usize, env: Env) -> Control
+    ensures means { (t : View) (rest : Comp) → t.tree place ≡ build t.tree node.now →
+        handle (control_comp t result) (M.with_value (λ v. rest)) ≡ handle (M.comp_stmt t.program (stmt_at t place) [] env.index) (M.with_value (λ v. rest)) }
+    ensures less { (w : Weights) → node_weight w node.now < w place → control_weight w result ≤ w place }
+{
+    match node {
+        Node::Expression { expression, .. } => Control::Begin(Task::Evaluate {
+            place: *expression,
+            env,
+        }),
+        _ => execute(alloc, place, env),
     }
 }
 
