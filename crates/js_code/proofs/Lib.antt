@@ -11,4 +11,5 @@ pub mod Same
 pub mod SameNames
 pub mod SeenNames
 pub mod Special
+pub mod Statements
 pub mod Told

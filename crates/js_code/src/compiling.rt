@@ -162,7 +162,7 @@ pub fn shared_if(
 }
 
 /// The name that a pattern binds.
-#[tactic(auto, using(js_tree::proofs::Equations::tree_rules))]
+#[tactic(auto, using(crate::proofs::Rules::pattern_rules))]
 pub fn bound_name(alloc: Global, pattern: &Pattern) -> Result<SharedName, Memory>
     ensures { IfOk result (λ name. plain_pattern pattern.now ≡ BindingIdentifier pattern.now.loc name) }
 {

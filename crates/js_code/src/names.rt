@@ -146,7 +146,6 @@ pub fn expected_arguments(params: &[Param]) -> usize
 }
 
 /// Whether a parameter has a default.
-#[tactic(auto, using(js_tree::proofs::Equations::tree_rules))]
 fn has_default(param: &Param) -> bool
     ensures { result ≡ defaulted (plain_param param.now) }
 {
@@ -267,7 +266,6 @@ impl Visitor for Collector {
 
     ghost found = { λ collector. collector.names };
 
-    #[tactic(auto, using(js_tree::proofs::Equations::tree_rules))]
     fn visit(&mut self, declared: &bool, part: Part<'_>) -> Result<Option<bool>, Memory> {
         match part {
             Part::Pattern(pattern) => {
@@ -288,7 +286,7 @@ impl Visitor for Collector {
 }
 
 /// Puts the name of a pattern that `var` declares at the end.
-#[tactic(auto, using(js_tree::proofs::Equations::tree_rules))]
+#[tactic(auto, using(crate::proofs::Rules::pattern_rules))]
 fn push_name(alloc: Global, pattern: &Pattern, names: &mut Items<SharedName>) -> Result<(), Memory>
     ensures { IfOk result (λ _. names.new ≡ names.old ++ own_var true (APattern (plain_pattern pattern.now))) }
 {
@@ -308,38 +306,36 @@ fn is_the_var(kind: VariableKind) -> bool
 }
 
 /// Whether a statement declares by `var`.
-#[tactic(auto, using(crate::proofs::Rules::stmt_rules))]
 fn declares_in_stmt(stmt: &Stmt) -> bool
     ensures { Some result ≡ declares false (AStmt (plain_stmt stmt.now)) }
 {
     match &stmt.node {
         StmtNode::VariableDeclaration(kind, _) => is_the_var(*kind),
-        StmtNode::Directive(_)
-        | StmtNode::Block(_)
-        | StmtNode::Empty
-        | StmtNode::Expression(_)
-        | StmtNode::If(_, _, _)
-        | StmtNode::DoWhile(_, _)
-        | StmtNode::While(_, _)
-        | StmtNode::For(_, _, _, _)
-        | StmtNode::ForIn(_, _, _)
-        | StmtNode::ForOf(_, _, _)
-        | StmtNode::Continue(_)
-        | StmtNode::Break(_)
-        | StmtNode::Return(_)
-        | StmtNode::Switch(_, _)
-        | StmtNode::Labelled(_, _)
-        | StmtNode::Throw(_)
-        | StmtNode::TryCatch(_, _)
-        | StmtNode::TryFinally(_, _)
-        | StmtNode::TryCatchFinally(_, _, _)
-        | StmtNode::Debugger
-        | StmtNode::FunctionDeclaration(_, _) => false,
+        StmtNode::Directive(_) => false,
+        StmtNode::Block(_) => false,
+        StmtNode::Empty => false,
+        StmtNode::Expression(_) => false,
+        StmtNode::If(_, _, _) => false,
+        StmtNode::DoWhile(_, _) => false,
+        StmtNode::While(_, _) => false,
+        StmtNode::For(_, _, _, _) => false,
+        StmtNode::ForIn(_, _, _) => false,
+        StmtNode::ForOf(_, _, _) => false,
+        StmtNode::Continue(_) => false,
+        StmtNode::Break(_) => false,
+        StmtNode::Return(_) => false,
+        StmtNode::Switch(_, _) => false,
+        StmtNode::Labelled(_, _) => false,
+        StmtNode::Throw(_) => false,
+        StmtNode::TryCatch(_, _) => false,
+        StmtNode::TryFinally(_, _) => false,
+        StmtNode::TryCatchFinally(_, _, _) => false,
+        StmtNode::Debugger => false,
+        StmtNode::FunctionDeclaration(_, _) => false,
     }
 }
 
 /// Whether the first part of a `for` declares by `var`.
-#[tactic(auto, using(js_tree::proofs::Equations::tree_rules))]
 fn declares_in_init(init: &ForInit) -> bool
     ensures { Some result ≡ declares false (AForInit (plain_for_init init.now)) }
 {
@@ -351,7 +347,6 @@ fn declares_in_init(init: &ForInit) -> bool
 }
 
 /// Whether the target of a `for` declares by `var`.
-#[tactic(auto, using(js_tree::proofs::Equations::tree_rules))]
 fn declares_in_target(target: &ForTarget) -> bool
     ensures { Some result ≡ declares false (AForTarget (plain_for_target target.now)) }
 {

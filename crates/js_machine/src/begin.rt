@@ -12,7 +12,7 @@ use crate::clauses::{
 };
 use crate::data::{Action, Control, Frame, Task};
 use crate::expressions::begin_expression;
-use crate::frames::push;
+use crate::frames::with_frame;
 use crate::functions::{begin_body, begin_param, begin_parameters, begin_params};
 use crate::lists::{list_of, there};
 use crate::literals::{
@@ -184,13 +184,14 @@ pub fn begin(
             env,
         } => bind_param(code, frames, param, rest, arguments, next, env),
         Task::Run { function, env } => begin_body(frames, code.node(function), env),
-        Task::RunFile { statements, env } => {
-            push(frames, Frame::AfterCall)?;
-            Ok(Control::Begin(Task::ExecuteAll {
+        Task::RunFile { statements, env } => with_frame(
+            frames,
+            Frame::AfterCall,
+            Control::Begin(Task::ExecuteAll {
                 place: statements,
                 env,
-            }))
-        }
+            }),
+        ),
         Task::Within { next, env } => begin_within(frames, next, env),
     }
 }

@@ -12,7 +12,7 @@ ghost use Rattle.js_machine.specs.private.Weight.{Weights, node_weight, clause_w
 ghost use Rattle.js_machine.specs.private.Frames.{ComesTo, Lighter};
 
 use crate::data::{Control, Frame, Pending, Task};
-use crate::frames::push;
+use crate::frames::with_frame;
 use crate::lists::list_of;
 use crate::steps::undefined;
 use items::Memory;
@@ -64,19 +64,17 @@ pub fn begin_select_case(
             value,
             env,
         })),
-        Some(test) => {
-            push(
-                frames,
-                Frame::Value(Pending::Tested {
-                    statements,
-                    rest,
-                    all,
-                    value,
-                    env,
-                }),
-            )?;
-            Ok(Control::Begin(Task::Evaluate { place: test, env }))
-        }
+        Some(test) => with_frame(
+            frames,
+            Frame::Value(Pending::Tested {
+                statements,
+                rest,
+                all,
+                value,
+                env,
+            }),
+            Control::Begin(Task::Evaluate { place: test, env }),
+        ),
     }
 }
 
@@ -125,11 +123,14 @@ pub fn begin_from(
         (handle (M.comp_stmts t.program (stmts_at t statements) env.index) (M.with_value (λ v. M.comp_cases t.program (as_cases (t.tree rest)) env.index))) frames.new.items control) }
     ensures less { IfOk result (λ control. (w : Weights) → Lighter w frames.old.items (w statements + w rest + 2) frames.new.items control) }
 {
-    push(frames, Frame::Value(Pending::Fallen { rest, env }))?;
-    Ok(Control::Begin(Task::ExecuteAll {
-        place: statements,
-        env,
-    }))
+    with_frame(
+        frames,
+        Frame::Value(Pending::Fallen { rest, env }),
+        Control::Begin(Task::ExecuteAll {
+            place: statements,
+            env,
+        }),
+    )
 }
 
 /// Clauses begin, one after another.
@@ -139,10 +140,11 @@ pub fn begin_clauses(frames: &mut Vec<Frame>, node: &Node, env: Env) -> Result<C
     ensures less { IfOk result (λ control. (w : Weights) → Lighter w frames.old.items (node_weight w node.now) frames.new.items control) }
 {
     match list_of(node, ListKind::Cases) {
-        Some((first, rest)) => {
-            push(frames, Frame::Value(Pending::Fallen { rest, env }))?;
-            Ok(Control::Begin(Task::ExecuteCase { case: first, env }))
-        }
+        Some((first, rest)) => with_frame(
+            frames,
+            Frame::Value(Pending::Fallen { rest, env }),
+            Control::Begin(Task::ExecuteCase { case: first, env }),
+        ),
         None => Ok(undefined()),
     }
 }

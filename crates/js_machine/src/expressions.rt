@@ -11,7 +11,7 @@ ghost use Rattle.js_machine.specs.private.Weight.{Weights, node_weight, control_
 ghost use Rattle.js_machine.specs.private.Frames.{ComesTo, Lighter};
 
 use crate::data::{Action, Control, Frame, Pending, Task};
-use crate::frames::push;
+use crate::frames::with_frame;
 use crate::parts::{Form, Gathering, Referring, Title};
 use crate::steps::{number, primitive};
 use items::{Items, Memory};
@@ -72,40 +72,37 @@ pub fn begin_expression(
             place: *inner,
             env,
         })),
-        Node::NamedMember { object, .. } => {
-            push(frames, Frame::Value(Pending::NamedMember { name: place }))?;
-            Ok(Control::Begin(Task::Evaluate {
+        Node::NamedMember { object, .. } => with_frame(
+            frames,
+            Frame::Value(Pending::NamedMember { name: place }),
+            Control::Begin(Task::Evaluate {
                 place: *object,
                 env,
-            }))
-        }
-        Node::ComputedMember { object, key, .. } => {
-            push(
-                frames,
-                Frame::Value(Pending::MemberObject { key: *key, env }),
-            )?;
-            Ok(Control::Begin(Task::Evaluate {
+            }),
+        ),
+        Node::ComputedMember { object, key, .. } => with_frame(
+            frames,
+            Frame::Value(Pending::MemberObject { key: *key, env }),
+            Control::Begin(Task::Evaluate {
                 place: *object,
                 env,
-            }))
-        }
+            }),
+        ),
         Node::New {
             constructor,
             arguments,
             ..
-        } => {
-            push(
-                frames,
-                Frame::Value(Pending::Constructor {
-                    arguments: *arguments,
-                    env,
-                }),
-            )?;
-            Ok(Control::Begin(Task::Evaluate {
+        } => with_frame(
+            frames,
+            Frame::Value(Pending::Constructor {
+                arguments: *arguments,
+                env,
+            }),
+            Control::Begin(Task::Evaluate {
                 place: *constructor,
                 env,
-            }))
-        }
+            }),
+        ),
         Node::Call {
             callee,
             arguments,
@@ -151,49 +148,43 @@ pub fn begin_expression(
             left,
             right,
             ..
-        } => {
-            push(
-                frames,
-                Frame::Value(Pending::Left {
-                    operator: *operator,
-                    right: *right,
-                    env,
-                }),
-            )?;
-            Ok(Control::Begin(Task::Evaluate { place: *left, env }))
-        }
+        } => with_frame(
+            frames,
+            Frame::Value(Pending::Left {
+                operator: *operator,
+                right: *right,
+                env,
+            }),
+            Control::Begin(Task::Evaluate { place: *left, env }),
+        ),
         Node::Logical {
             operator,
             left,
             right,
             ..
-        } => {
-            push(
-                frames,
-                Frame::Value(Pending::Logical {
-                    operator: *operator,
-                    right: *right,
-                    env,
-                }),
-            )?;
-            Ok(Control::Begin(Task::Evaluate { place: *left, env }))
-        }
+        } => with_frame(
+            frames,
+            Frame::Value(Pending::Logical {
+                operator: *operator,
+                right: *right,
+                env,
+            }),
+            Control::Begin(Task::Evaluate { place: *left, env }),
+        ),
         Node::Conditional {
             test,
             holds,
             fails,
             ..
-        } => {
-            push(
-                frames,
-                Frame::Value(Pending::Conditional {
-                    holds: *holds,
-                    fails: *fails,
-                    env,
-                }),
-            )?;
-            Ok(Control::Begin(Task::Evaluate { place: *test, env }))
-        }
+        } => with_frame(
+            frames,
+            Frame::Value(Pending::Conditional {
+                holds: *holds,
+                fails: *fails,
+                env,
+            }),
+            Control::Begin(Task::Evaluate { place: *test, env }),
+        ),
         Node::Assignment {
             operator,
             target,
@@ -207,10 +198,11 @@ pub fn begin_expression(
                 value: *value,
             },
         })),
-        Node::Comma { left, right, .. } => {
-            push(frames, Frame::Value(Pending::Comma { right: *right, env }))?;
-            Ok(Control::Begin(Task::Evaluate { place: *left, env }))
-        }
+        Node::Comma { left, right, .. } => with_frame(
+            frames,
+            Frame::Value(Pending::Comma { right: *right, env }),
+            Control::Begin(Task::Evaluate { place: *left, env }),
+        ),
         _ => Ok(primitive(Primitive::Null)),
     }
 }
@@ -261,13 +253,14 @@ fn begin_unary(
             place: operand,
             env,
         })),
-        _ => {
-            push(frames, Frame::Value(Pending::Operand { operator }))?;
-            Ok(Control::Begin(Task::Evaluate {
+        _ => with_frame(
+            frames,
+            Frame::Value(Pending::Operand { operator }),
+            Control::Begin(Task::Evaluate {
                 place: operand,
                 env,
-            }))
-        }
+            }),
+        ),
     }
 }
 

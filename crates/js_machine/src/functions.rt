@@ -13,7 +13,7 @@ ghost use Rattle.js_machine.specs.private.Weight.{Weights, control_weight, decla
 ghost use Rattle.js_machine.specs.private.Frames.{ComesTo, Lighter};
 
 use crate::data::{Action, Control, Frame, Pending, Task};
-use crate::frames::push;
+use crate::frames::with_frame;
 use crate::lists::list_of;
 use crate::parts::Title;
 use crate::steps::undefined;
@@ -56,13 +56,16 @@ fn bind_all(
     ensures means { IfOk result (λ control. (t : View) → ComesTo t frames.old.items (handle (control_comp t (Control.Begin (Task.Bind params arguments 0 env))) (frame_comp t (Frame.Value (Pending.Bound function env)))) frames.new.items control) }
     ensures weight { IfOk result (λ control. (w : Weights) → frames_weight w frames.new.items + control_weight w control ≡ frames_weight w frames.old.items + (frame_weight w (Frame.Value (Pending.Bound function env)) + control_weight w (Control.Begin (Task.Bind params arguments 0 env)))) }
 {
-    push(frames, Frame::Value(Pending::Bound { function, env }))?;
-    Ok(Control::Begin(Task::Bind {
-        params,
-        arguments,
-        next: 0,
-        env,
-    }))
+    with_frame(
+        frames,
+        Frame::Value(Pending::Bound { function, env }),
+        Control::Begin(Task::Bind {
+            params,
+            arguments,
+            next: 0,
+            env,
+        }),
+    )
 }
 
 /// The parameters that are left begin.
@@ -133,7 +136,7 @@ fn take_argument(
     ensures means { IfOk result (λ control. (t : View) → ComesTo t frames.old.items (handle (control_comp t (Control.Do (Action.Initialize name env value))) (frame_comp t (Frame.Value (Pending.NextParam rest arguments next env)))) frames.new.items control) }
     ensures weight { IfOk result (λ control. (w : Weights) → frames_weight w frames.new.items + control_weight w control ≡ frames_weight w frames.old.items + (frame_weight w (Frame.Value (Pending.NextParam rest arguments next env)) + control_weight w (Control.Do (Action.Initialize name env value)))) }
 {
-    push(
+    with_frame(
         frames,
         Frame::Value(Pending::NextParam {
             rest,
@@ -141,8 +144,8 @@ fn take_argument(
             next,
             env,
         }),
-    )?;
-    Ok(Control::Do(Action::Initialize { name, env, value }))
+        Control::Do(Action::Initialize { name, env, value }),
+    )
 }
 
 // A parameter takes its default.
@@ -159,7 +162,7 @@ fn take_default(
         (handle (control_comp t (Control.Begin (Task.EvaluateNamed (Title.Name name) default env))) (frame_comp t (Frame.Value (Pending.Param name rest arguments next env)))) frames.new.items control) }
     ensures weight { IfOk result (λ control. (w : Weights) → frames_weight w frames.new.items + control_weight w control ≡ frames_weight w frames.old.items + (2 * w default + w rest + 6)) }
 {
-    push(
+    with_frame(
         frames,
         Frame::Value(Pending::Param {
             param: name,
@@ -168,12 +171,12 @@ fn take_default(
             next,
             env,
         }),
-    )?;
-    Ok(Control::Begin(Task::EvaluateNamed {
-        title: Title::Name(name),
-        place: default,
-        env,
-    }))
+        Control::Begin(Task::EvaluateNamed {
+            title: Title::Name(name),
+            place: default,
+            env,
+        }),
+    )
 }
 
 // A parameter with a default takes its argument, or the default where that is undefined.
@@ -231,10 +234,11 @@ pub fn begin_body(frames: &mut Vec<Frame>, node: &Node, env: Env) -> Result<Cont
     match node {
         Node::Function { body, .. } => Ok(Control::Begin(Task::ExecuteAll { place: *body, env })),
         Node::ArrowBlock { body, .. } => Ok(Control::Begin(Task::ExecuteAll { place: *body, env })),
-        Node::ArrowExpression { value, .. } => {
-            push(frames, Frame::Value(Pending::Return))?;
-            Ok(Control::Begin(Task::Evaluate { place: *value, env }))
-        }
+        Node::ArrowExpression { value, .. } => with_frame(
+            frames,
+            Frame::Value(Pending::Return),
+            Control::Begin(Task::Evaluate { place: *value, env }),
+        ),
         _ => Ok(undefined()),
     }
 }

@@ -11,7 +11,7 @@ ghost use Rattle.js_machine.specs.private.Frames.{ComesTo, Lighter};
 
 use crate::copies::copy_title;
 use crate::data::{Action, Control, Frame, Pending, Task};
-use crate::frames::push;
+use crate::frames::with_frame;
 use crate::lists::list_of;
 use crate::parts::{Form, Gathering, Keying, Title};
 use crate::steps::NOWHERE;
@@ -35,18 +35,16 @@ pub fn begin_list(
     ensures less { IfOk result (λ control. (w : Weights) → Lighter w frames.old.items (node_weight w node.now) frames.new.items control) }
 {
     match list_of(node, ListKind::Exprs) {
-        Some((first, rest)) => {
-            push(
-                frames,
-                Frame::Value(Pending::Item {
-                    rest,
-                    env,
-                    values,
-                    gathering,
-                }),
-            )?;
-            Ok(Control::Begin(Task::Evaluate { place: first, env }))
-        }
+        Some((first, rest)) => with_frame(
+            frames,
+            Frame::Value(Pending::Item {
+                rest,
+                env,
+                values,
+                gathering,
+            }),
+            Control::Begin(Task::Evaluate { place: first, env }),
+        ),
         None => Ok(Control::Do(Action::Gathered { gathering, values })),
     }
 }
@@ -89,14 +87,16 @@ pub fn begin_template_part(
         units,
     };
     match node {
-        Node::TemplatePart { value, .. } => {
-            push(frames, Frame::Value(pending))?;
-            Ok(Control::Begin(Task::Evaluate { place: *value, env }))
-        }
-        _ => {
-            push(frames, Frame::Value(pending))?;
-            Ok(Control::Give(Completion::Normal(Value::Primitive(Primitive::Null))))
-        }
+        Node::TemplatePart { value, .. } => with_frame(
+            frames,
+            Frame::Value(pending),
+            Control::Begin(Task::Evaluate { place: *value, env }),
+        ),
+        _ => with_frame(
+            frames,
+            Frame::Value(pending),
+            Control::Give(Completion::Normal(Value::Primitive(Primitive::Null))),
+        ),
     }
 }
 
@@ -112,17 +112,15 @@ pub fn begin_properties(
     ensures less { IfOk result (λ control. (w : Weights) → Lighter w frames.old.items (node_weight w node.now) frames.new.items control) }
 {
     match list_of(node, ListKind::Properties) {
-        Some((first, rest)) => {
-            push(
-                frames,
-                Frame::Value(Pending::Property { rest, env, object }),
-            )?;
-            Ok(Control::Begin(Task::DefineOne {
+        Some((first, rest)) => with_frame(
+            frames,
+            Frame::Value(Pending::Property { rest, env, object }),
+            Control::Begin(Task::DefineOne {
                 property: first,
                 env,
                 object,
-            }))
-        }
+            }),
+        ),
         None => Ok(Control::Give(Completion::Normal(Value::Object(object)))),
     }
 }
@@ -141,16 +139,14 @@ pub fn begin_property(
     ensures less { IfOk result (λ control. (w : Weights) → Lighter w frames.old.items (node_weight w node.now) frames.new.items control) }
 {
     match node {
-        Node::Shorthand { .. } => {
-            push(
-                frames,
-                Frame::Value(Pending::As {
-                    object,
-                    key: Title::Name(place),
-                }),
-            )?;
-            Ok(Control::Do(Action::Read { name: place, env }))
-        }
+        Node::Shorthand { .. } => with_frame(
+            frames,
+            Frame::Value(Pending::As {
+                object,
+                key: Title::Name(place),
+            }),
+            Control::Do(Action::Read { name: place, env }),
+        ),
         Node::KeyValue { key, value, .. } => Ok(Control::Begin(Task::Key {
             key: *key,
             env,
@@ -167,16 +163,14 @@ pub fn begin_property(
                 object,
             },
         })),
-        _ => {
-            push(
-                frames,
-                Frame::Value(Pending::As {
-                    object,
-                    key: Title::Name(NOWHERE),
-                }),
-            )?;
-            Ok(Control::Do(Action::Read { name: NOWHERE, env }))
-        }
+        _ => with_frame(
+            frames,
+            Frame::Value(Pending::As {
+                object,
+                key: Title::Name(NOWHERE),
+            }),
+            Control::Do(Action::Read { name: NOWHERE, env }),
+        ),
     }
 }
 
@@ -206,10 +200,11 @@ pub fn begin_key(
             key: Title::Text(literal.units.copy()?),
         })),
         Node::NumberKey { numeral } => begin_number_key(alloc, numeral.value(), env, next),
-        Node::ComputedKey { value } => {
-            push(frames, Frame::Value(Pending::Key { next, env }))?;
-            Ok(Control::Begin(Task::Evaluate { place: *value, env }))
-        }
+        Node::ComputedKey { value } => with_frame(
+            frames,
+            Frame::Value(Pending::Key { next, env }),
+            Control::Begin(Task::Evaluate { place: *value, env }),
+        ),
         _ => Ok(Control::Begin(Task::Keyed {
             next,
             env,
@@ -254,22 +249,24 @@ pub fn begin_keyed(
 {
     let title = copy_title(&key)?;
     match next {
-        Keying::Value { value, object } => {
-            push(frames, Frame::Value(Pending::As { object, key }))?;
-            Ok(Control::Begin(Task::EvaluateNamed {
+        Keying::Value { value, object } => with_frame(
+            frames,
+            Frame::Value(Pending::As { object, key }),
+            Control::Begin(Task::EvaluateNamed {
                 title,
                 place: value,
                 env,
-            }))
-        }
-        Keying::Method { function, object } => {
-            push(frames, Frame::Value(Pending::As { object, key }))?;
-            Ok(Control::Do(Action::Close {
+            }),
+        ),
+        Keying::Method { function, object } => with_frame(
+            frames,
+            Frame::Value(Pending::As { object, key }),
+            Control::Do(Action::Close {
                 form: Form::Method,
                 function,
                 title,
                 env,
-            }))
-        }
+            }),
+        ),
     }
 }

@@ -10,7 +10,7 @@ ghost use Rattle.js_machine.specs.private.Weight.{Weights, node_weight, scoped_w
 ghost use Rattle.js_machine.specs.private.Frames.{ComesTo, Lighter};
 
 use crate::data::{Action, Control, Entry, Frame, Pending, Task};
-use crate::frames::push;
+use crate::frames::with_frame;
 use crate::parts::{Form, Labels, Loop, Referring, Scoped, Title};
 use crate::statements::bind_to;
 use items::{Boxed, Memory};
@@ -38,17 +38,15 @@ pub fn begin_test(
             labels,
             env,
         })),
-        Some(test) => {
-            push(
-                frames,
-                Frame::Value(Pending::Turn {
-                    statement,
-                    labels,
-                    env,
-                }),
-            )?;
-            Ok(Control::Begin(Task::Evaluate { place: test, env }))
-        }
+        Some(test) => with_frame(
+            frames,
+            Frame::Value(Pending::Turn {
+                statement,
+                labels,
+                env,
+            }),
+            Control::Begin(Task::Evaluate { place: test, env }),
+        ),
     }
 }
 
@@ -66,17 +64,15 @@ pub fn begin_again(
     ensures less { IfOk result (λ control. (w : Weights) → Lighter w frames.old.items (w statement + node_weight w node.now) frames.new.items control) }
 {
     match node {
-        Node::DoWhile { test, .. } => {
-            push(
-                frames,
-                Frame::Value(Pending::Turn {
-                    statement,
-                    labels,
-                    env,
-                }),
-            )?;
-            Ok(Control::Begin(Task::Evaluate { place: *test, env }))
-        }
+        Node::DoWhile { test, .. } => with_frame(
+            frames,
+            Frame::Value(Pending::Turn {
+                statement,
+                labels,
+                env,
+            }),
+            Control::Begin(Task::Evaluate { place: *test, env }),
+        ),
         Node::For {
             init,
             test,
@@ -152,47 +148,44 @@ pub fn begin_within(frames: &mut Vec<Frame>, next: Scoped, env: Env) -> Result<C
             test,
             statement,
             labels,
-        } => {
-            push(
-                frames,
-                Frame::Value(Pending::Started {
-                    init,
-                    test,
-                    statement,
-                    labels,
-                    env,
-                }),
-            )?;
-            Ok(Control::Begin(Task::Start { init, env }))
-        }
+        } => with_frame(
+            frames,
+            Frame::Value(Pending::Started {
+                init,
+                test,
+                statement,
+                labels,
+                env,
+            }),
+            Control::Begin(Task::Start { init, env }),
+        ),
         Scoped::Subject {
             keys,
             subject,
             round,
-        } => {
-            push(frames, Frame::Value(Pending::Subject { keys, round }))?;
-            Ok(Control::Begin(Task::Evaluate {
+        } => with_frame(
+            frames,
+            Frame::Value(Pending::Subject { keys, round }),
+            Control::Begin(Task::Evaluate {
                 place: subject,
                 env,
-            }))
-        }
+            }),
+        ),
         Scoped::Target {
             kind,
             name,
             value,
             round,
             rest,
-        } => {
-            push(
-                frames,
-                Frame::Value(Pending::Taken {
-                    round,
-                    inner: env,
-                    rest,
-                }),
-            )?;
-            Ok(bind_to(kind, name, env, value))
-        }
+        } => with_frame(
+            frames,
+            Frame::Value(Pending::Taken {
+                round,
+                inner: env,
+                rest,
+            }),
+            bind_to(kind, name, env, value),
+        ),
         Scoped::Turn {
             test,
             statement,
@@ -208,36 +201,36 @@ pub fn begin_within(frames: &mut Vec<Frame>, next: Scoped, env: Env) -> Result<C
             test,
             statement,
             labels,
-        } => {
-            push(
-                frames,
-                Frame::Value(Pending::Updated {
-                    test,
-                    statement,
-                    labels,
-                    env,
-                }),
-            )?;
-            Ok(Control::Begin(Task::EvaluateIf { place: update, env }))
-        }
-        Scoped::Switch { cases, value } => {
-            push(frames, Frame::AfterSwitch)?;
-            Ok(Control::Begin(Task::Select {
+        } => with_frame(
+            frames,
+            Frame::Value(Pending::Updated {
+                test,
+                statement,
+                labels,
+                env,
+            }),
+            Control::Begin(Task::EvaluateIf { place: update, env }),
+        ),
+        Scoped::Switch { cases, value } => with_frame(
+            frames,
+            Frame::AfterSwitch,
+            Control::Begin(Task::Select {
                 cases,
                 all: cases,
                 value,
                 env,
-            }))
-        }
+            }),
+        ),
         Scoped::Block { block } => Ok(Control::Do(Action::EnterBlock { block, env })),
-        Scoped::OwnName { name, function } => {
-            push(frames, Frame::Value(Pending::OwnName { name, env }))?;
-            Ok(Control::Do(Action::Close {
+        Scoped::OwnName { name, function } => with_frame(
+            frames,
+            Frame::Value(Pending::OwnName { name, env }),
+            Control::Do(Action::Close {
                 form: Form::Ordinary,
                 function,
                 title: Title::Name(name),
                 env,
-            }))
-        }
+            }),
+        ),
     }
 }

@@ -10,7 +10,7 @@ ghost use Rattle.js_machine.specs.private.Frames.{ComesTo, Lighter};
 
 use crate::clauses::begin_from;
 use crate::data::{Action, Control, Entry, Frame, Pending, Task};
-use crate::frames::push;
+use crate::frames::with_frame;
 use crate::parts::{Keying, Labels, Loop, Reference, Title};
 use crate::references::put;
 use crate::steps::{halted, undefined};
@@ -158,11 +158,11 @@ fn update_number(
     match step(operator, old) {
         Ok(new) => {
             let given = chosen(prefix, new, old);
-            push(
+            with_frame(
                 frames,
                 Frame::Value(Pending::Instead(Completion::Normal(given))),
-            )?;
-            Ok(put(reference, env, Value::Primitive(Primitive::Number(new))))
+                put(reference, env, Value::Primitive(Primitive::Number(new))),
+            )
         }
         Err(kind) => Ok(Control::Refuse(kind)),
     }

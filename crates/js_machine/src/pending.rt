@@ -6,7 +6,7 @@ ghost use Rattle.js_machine.specs.private.Weight.{Weights, pending_weight};
 ghost use Rattle.js_machine.specs.private.Frames.{ComesTo, Lighter};
 
 use crate::data::{Action, Control, Frame, Pending, Task};
-use crate::frames::push;
+use crate::frames::with_frame;
 use crate::operators::{
     choose, choose_statement, key_text, logical, next_param, subject, take_pass, template_text,
     tested, turn, update,
@@ -36,10 +36,11 @@ pub fn go_on(
             base: value,
             key: MemberKey::Name(name),
         })),
-        Pending::MemberObject { key, env } => {
-            push(frames, Frame::Value(Pending::MemberKey { base: value }))?;
-            Ok(Control::Begin(Task::Evaluate { place: key, env }))
-        }
+        Pending::MemberObject { key, env } => with_frame(
+            frames,
+            Frame::Value(Pending::MemberKey { base: value }),
+            Control::Begin(Task::Evaluate { place: key, env }),
+        ),
         Pending::MemberKey { base } => Ok(Control::Do(Action::GetMember {
             base,
             key: MemberKey::Value(value),
@@ -84,16 +85,14 @@ pub fn go_on(
             operator,
             right,
             env,
-        } => {
-            push(
-                frames,
-                Frame::Value(Pending::Right {
-                    operator,
-                    left: value,
-                }),
-            )?;
-            Ok(Control::Begin(Task::Evaluate { place: right, env }))
-        }
+        } => with_frame(
+            frames,
+            Frame::Value(Pending::Right {
+                operator,
+                left: value,
+            }),
+            Control::Begin(Task::Evaluate { place: right, env }),
+        ),
         Pending::Right { operator, left } => Ok(Control::Do(Action::Operate {
             operator,
             left,
@@ -114,17 +113,15 @@ pub fn go_on(
                 key: MemberKey::Name(name),
             },
         })),
-        Pending::ReferObject { key, env, next } => {
-            push(
-                frames,
-                Frame::Value(Pending::ReferKey {
-                    base: value,
-                    env,
-                    next,
-                }),
-            )?;
-            Ok(Control::Begin(Task::Evaluate { place: key, env }))
-        }
+        Pending::ReferObject { key, env, next } => with_frame(
+            frames,
+            Frame::Value(Pending::ReferKey {
+                base: value,
+                env,
+                next,
+            }),
+            Control::Begin(Task::Evaluate { place: key, env }),
+        ),
         Pending::ReferKey { base, env, next } => Ok(Control::Begin(Task::Referred {
             next,
             env,
@@ -139,31 +136,30 @@ pub fn go_on(
             value: right,
             reference,
             env,
-        } => {
-            push(
-                frames,
-                Frame::Value(Pending::New {
-                    operator,
-                    left: value,
-                    reference,
-                    env,
-                }),
-            )?;
-            Ok(Control::Begin(Task::Evaluate { place: right, env }))
-        }
+        } => with_frame(
+            frames,
+            Frame::Value(Pending::New {
+                operator,
+                left: value,
+                reference,
+                env,
+            }),
+            Control::Begin(Task::Evaluate { place: right, env }),
+        ),
         Pending::New {
             operator,
             left,
             reference,
             env,
-        } => {
-            push(frames, Frame::Value(Pending::Put { reference, env }))?;
-            Ok(Control::Do(Action::Operate {
+        } => with_frame(
+            frames,
+            Frame::Value(Pending::Put { reference, env }),
+            Control::Do(Action::Operate {
                 operator,
                 left,
                 right: value,
-            }))
-        }
+            }),
+        ),
         Pending::Update {
             prefix,
             operator,
@@ -253,22 +249,20 @@ pub fn go_on(
             arguments,
             next,
             env,
-        } => {
-            push(
-                frames,
-                Frame::Value(Pending::NextParam {
-                    rest,
-                    arguments,
-                    next,
-                    env,
-                }),
-            )?;
-            Ok(Control::Do(Action::Initialize {
+        } => with_frame(
+            frames,
+            Frame::Value(Pending::NextParam {
+                rest,
+                arguments,
+                next,
+                env,
+            }),
+            Control::Do(Action::Initialize {
                 name: param,
                 env,
                 value,
-            }))
-        }
+            }),
+        ),
         Pending::NextParam {
             rest,
             arguments,

@@ -14,7 +14,7 @@ ghost use Rattle.js_machine.specs.private.Frames.{ComesTo, Lighter};
 
 use crate::copies::copy_reference;
 use crate::data::{Action, Control, Frame, Pending, Task};
-use crate::frames::push;
+use crate::frames::with_frame;
 use crate::parts::{Form, Reference, Referring, Title};
 use items::Memory;
 use js_code::{Node, SharedIdentifier};
@@ -41,34 +41,30 @@ pub fn begin_reference(
             env,
             reference: Reference::Name(place),
         })),
-        Node::NamedMember { object, .. } => {
-            push(
-                frames,
-                Frame::Value(Pending::ReferNamed {
-                    name: place,
-                    env,
-                    next,
-                }),
-            )?;
-            Ok(Control::Begin(Task::Evaluate {
+        Node::NamedMember { object, .. } => with_frame(
+            frames,
+            Frame::Value(Pending::ReferNamed {
+                name: place,
+                env,
+                next,
+            }),
+            Control::Begin(Task::Evaluate {
                 place: *object,
                 env,
-            }))
-        }
-        Node::ComputedMember { object, key, .. } => {
-            push(
-                frames,
-                Frame::Value(Pending::ReferObject {
-                    key: *key,
-                    env,
-                    next,
-                }),
-            )?;
-            Ok(Control::Begin(Task::Evaluate {
+            }),
+        ),
+        Node::ComputedMember { object, key, .. } => with_frame(
+            frames,
+            Frame::Value(Pending::ReferObject {
+                key: *key,
+                env,
+                next,
+            }),
+            Control::Begin(Task::Evaluate {
                 place: *object,
                 env,
-            }))
-        }
+            }),
+        ),
         Node::Parenthesized { inner, .. } => Ok(Control::Begin(Task::Refer {
             place: *inner,
             env,
@@ -89,26 +85,22 @@ fn no_reference(
     ensures less { IfOk result (λ control. (w : Weights) → Lighter w frames.old.items (w place + referring_weight w next) frames.new.items control) }
 {
     match next {
-        Referring::Call { arguments } => {
-            push(
-                frames,
-                Frame::Value(Pending::Callee {
-                    arguments,
-                    env,
-                    this: Value::Primitive(Primitive::Undefined),
-                }),
-            )?;
-            Ok(Control::Begin(Task::Evaluate { place, env }))
-        }
-        Referring::Delete => {
-            push(
-                frames,
-                Frame::Value(Pending::Operand {
-                    operator: UnaryOperator::Delete,
-                }),
-            )?;
-            Ok(Control::Begin(Task::Evaluate { place, env }))
-        }
+        Referring::Call { arguments } => with_frame(
+            frames,
+            Frame::Value(Pending::Callee {
+                arguments,
+                env,
+                this: Value::Primitive(Primitive::Undefined),
+            }),
+            Control::Begin(Task::Evaluate { place, env }),
+        ),
+        Referring::Delete => with_frame(
+            frames,
+            Frame::Value(Pending::Operand {
+                operator: UnaryOperator::Delete,
+            }),
+            Control::Begin(Task::Evaluate { place, env }),
+        ),
         Referring::Update { .. } => Ok(not_assignable()),
         Referring::Assign { .. } => Ok(not_assignable()),
         Referring::Take { .. } => Ok(not_assignable()),
@@ -137,7 +129,7 @@ pub fn begin_referred(
         Referring::Call { arguments } => call_reference(frames, arguments, env, reference),
         Referring::Update { prefix, operator } => {
             let same = copy_reference(&reference)?;
-            push(
+            with_frame(
                 frames,
                 Frame::Value(Pending::Update {
                     prefix,
@@ -145,22 +137,20 @@ pub fn begin_referred(
                     reference: same,
                     env,
                 }),
-            )?;
-            Ok(get(reference, env))
+                get(reference, env),
+            )
         }
         Referring::Delete => Ok(Control::Do(Action::Delete(reference))),
         Referring::Assign { operator, value } => assign(frames, operator, value, env, reference),
-        Referring::Take { value, round, rest } => {
-            push(
-                frames,
-                Frame::Value(Pending::Taken {
-                    round,
-                    inner: env,
-                    rest,
-                }),
-            )?;
-            Ok(put(reference, env, value.into_inner()))
-        }
+        Referring::Take { value, round, rest } => with_frame(
+            frames,
+            Frame::Value(Pending::Taken {
+                round,
+                inner: env,
+                rest,
+            }),
+            put(reference, env, value.into_inner()),
+        ),
     }
 }
 
@@ -175,28 +165,26 @@ fn call_reference(
     ensures less { IfOk result (λ control. (w : Weights) → Lighter w frames.old.items (w arguments + 5) frames.new.items control) }
 {
     match reference {
-        Reference::Name(name) => {
-            push(
-                frames,
-                Frame::Value(Pending::Callee {
-                    arguments,
-                    env,
-                    this: Value::Primitive(Primitive::Undefined),
-                }),
-            )?;
-            Ok(Control::Do(Action::Read { name, env }))
-        }
+        Reference::Name(name) => with_frame(
+            frames,
+            Frame::Value(Pending::Callee {
+                arguments,
+                env,
+                this: Value::Primitive(Primitive::Undefined),
+            }),
+            Control::Do(Action::Read { name, env }),
+        ),
         Reference::Member { base, key } => {
             let this = base.copy()?;
-            push(
+            with_frame(
                 frames,
                 Frame::Value(Pending::Callee {
                     arguments,
                     env,
                     this,
                 }),
-            )?;
-            Ok(Control::Do(Action::GetMember { base, key }))
+                Control::Do(Action::GetMember { base, key }),
+            )
         }
     }
 }
@@ -216,7 +204,7 @@ fn assign(
         None => assign_plainly(frames, value, env, reference),
         Some(operator) => {
             let same = copy_reference(&reference)?;
-            push(
+            with_frame(
                 frames,
                 Frame::Value(Pending::Old {
                     operator,
@@ -224,8 +212,8 @@ fn assign(
                     reference: same,
                     env,
                 }),
-            )?;
-            Ok(get(reference, env))
+                get(reference, env),
+            )
         }
     }
 }
@@ -241,30 +229,26 @@ fn assign_plainly(
     ensures less { IfOk result (λ control. (w : Weights) → Lighter w frames.old.items (2 * w value + 10) frames.new.items control) }
 {
     match reference {
-        Reference::Name(name) => {
-            push(
-                frames,
-                Frame::Value(Pending::Put {
-                    reference: Reference::Name(name),
-                    env,
-                }),
-            )?;
-            Ok(Control::Begin(Task::EvaluateNamed {
+        Reference::Name(name) => with_frame(
+            frames,
+            Frame::Value(Pending::Put {
+                reference: Reference::Name(name),
+                env,
+            }),
+            Control::Begin(Task::EvaluateNamed {
                 title: Title::Name(name),
                 place: value,
                 env,
-            }))
-        }
-        Reference::Member { base, key } => {
-            push(
-                frames,
-                Frame::Value(Pending::Put {
-                    reference: Reference::Member { base, key },
-                    env,
-                }),
-            )?;
-            Ok(Control::Begin(Task::Evaluate { place: value, env }))
-        }
+            }),
+        ),
+        Reference::Member { base, key } => with_frame(
+            frames,
+            Frame::Value(Pending::Put {
+                reference: Reference::Member { base, key },
+                env,
+            }),
+            Control::Begin(Task::Evaluate { place: value, env }),
+        ),
     }
 }
 
@@ -369,14 +353,12 @@ pub fn begin_type_of(
             place: *inner,
             env,
         })),
-        _ => {
-            push(
-                frames,
-                Frame::Value(Pending::Operand {
-                    operator: UnaryOperator::TypeOf,
-                }),
-            )?;
-            Ok(Control::Begin(Task::Evaluate { place, env }))
-        }
+        _ => with_frame(
+            frames,
+            Frame::Value(Pending::Operand {
+                operator: UnaryOperator::TypeOf,
+            }),
+            Control::Begin(Task::Evaluate { place, env }),
+        ),
     }
 }

@@ -7,7 +7,7 @@ ghost use Rattle.js_machine.specs.private.Weight.{Weights, frame_weight, pending
 ghost use Rattle.js_machine.specs.private.Frames.{ComesTo, Lighter};
 
 use crate::data::{Action, Control, Frame, Pending, Task};
-use crate::frames::push;
+use crate::frames::with_frame;
 use crate::parts::{Labels, Loop};
 use crate::pending::go_on;
 use crate::steps::undefined;
@@ -40,10 +40,11 @@ pub fn resume(
         Frame::AfterLabel { label } => Ok(after_label(label, completion)),
         Frame::AfterSwitch => Ok(after_switch(completion)),
         Frame::Catch { catch, env } => Ok(caught(catch, env, completion)),
-        Frame::Finally { block, env } => {
-            push(frames, Frame::Value(Pending::Instead(completion)))?;
-            Ok(Control::Do(Action::EnterBlock { block, env }))
-        }
+        Frame::Finally { block, env } => with_frame(
+            frames,
+            Frame::Value(Pending::Instead(completion)),
+            Control::Do(Action::EnterBlock { block, env }),
+        ),
         Frame::AfterCall => Ok(after_call(completion)),
         Frame::AfterConstruct { made } => Ok(after_construct(made, completion)),
         Frame::AfterStart { file } => Ok(after_start(file, completion)),

@@ -12,7 +12,7 @@ ghost use Rattle.js_machine.specs.private.Frames.{ComesTo, Lighter};
 
 use crate::copies::label_first;
 use crate::data::{Action, Control, Entry, Frame, Pending, Task};
-use crate::frames::push;
+use crate::frames::with_frame;
 use crate::lists::list_of;
 use crate::parts::{Labels, Loop, Scoped, Title};
 use crate::steps::undefined;
@@ -52,45 +52,42 @@ pub fn begin_statement(
             declarators: *declarators,
             env,
         })),
-        Node::Expression { expression, .. } => {
-            push(frames, Frame::Value(Pending::Discard))?;
-            Ok(Control::Begin(Task::Evaluate {
+        Node::Expression { expression, .. } => with_frame(
+            frames,
+            Frame::Value(Pending::Discard),
+            Control::Begin(Task::Evaluate {
                 place: *expression,
                 env,
-            }))
-        }
+            }),
+        ),
         Node::If {
             test,
             holds,
             fails,
             ..
-        } => {
-            push(
-                frames,
-                Frame::Value(Pending::Choose {
-                    holds: *holds,
-                    fails: *fails,
-                    env,
-                }),
-            )?;
-            Ok(Control::Begin(Task::Evaluate { place: *test, env }))
-        }
+        } => with_frame(
+            frames,
+            Frame::Value(Pending::Choose {
+                holds: *holds,
+                fails: *fails,
+                env,
+            }),
+            Control::Begin(Task::Evaluate { place: *test, env }),
+        ),
         Node::DoWhile { .. } => Ok(Control::Enter(Entry::Turn {
             statement: place,
             labels,
             env,
         })),
-        Node::While { test, .. } => {
-            push(
-                frames,
-                Frame::Value(Pending::Turn {
-                    statement: place,
-                    labels,
-                    env,
-                }),
-            )?;
-            Ok(Control::Begin(Task::Evaluate { place: *test, env }))
-        }
+        Node::While { test, .. } => with_frame(
+            frames,
+            Frame::Value(Pending::Turn {
+                statement: place,
+                labels,
+                env,
+            }),
+            Control::Begin(Task::Evaluate { place: *test, env }),
+        ),
         Node::For { init, test, .. } => Ok(Control::Do(Action::EnterLoop {
             next: Scoped::For {
                 init: *init,
@@ -130,45 +127,53 @@ pub fn begin_statement(
             Ok(Control::Give(Completion::Continue(copied(alloc, label)?)))
         }
         Node::Break { label, .. } => { Ok(Control::Give(Completion::Break(copied(alloc, label)?))) }
-        Node::Return { value, .. } => {
-            push(frames, Frame::Value(Pending::Return))?;
-            Ok(Control::Begin(Task::EvaluateIf { place: *value, env }))
-        }
-        Node::Switch { value, cases, .. } => {
-            push(frames, Frame::Value(Pending::Switch { cases: *cases, env }))?;
-            Ok(Control::Begin(Task::Evaluate { place: *value, env }))
-        }
+        Node::Return { value, .. } => with_frame(
+            frames,
+            Frame::Value(Pending::Return),
+            Control::Begin(Task::EvaluateIf { place: *value, env }),
+        ),
+        Node::Switch { value, cases, .. } => with_frame(
+            frames,
+            Frame::Value(Pending::Switch { cases: *cases, env }),
+            Control::Begin(Task::Evaluate { place: *value, env }),
+        ),
         Node::Labelled { body, .. } => {
             let labels = label_first(alloc, place, &labels)?;
-            push(frames, Frame::AfterLabel { label: place })?;
-            Ok(Control::Begin(Task::Execute {
-                place: *body,
-                labels,
-                env,
-            }))
+            with_frame(
+                frames,
+                Frame::AfterLabel { label: place },
+                Control::Begin(Task::Execute {
+                    place: *body,
+                    labels,
+                    env,
+                }),
+            )
         }
-        Node::Throw { value, .. } => {
-            push(frames, Frame::Value(Pending::Throw))?;
-            Ok(Control::Begin(Task::Evaluate { place: *value, env }))
-        }
+        Node::Throw { value, .. } => with_frame(
+            frames,
+            Frame::Value(Pending::Throw),
+            Control::Begin(Task::Evaluate { place: *value, env }),
+        ),
         Node::TryCatch { block, catch, .. } => begin_try(frames, *block, *catch, env),
-        Node::TryFinally { block, last, .. } => {
-            push(frames, Frame::Finally { block: *last, env })?;
-            Ok(Control::Do(Action::EnterBlock { block: *block, env }))
-        }
+        Node::TryFinally { block, last, .. } => with_frame(
+            frames,
+            Frame::Finally { block: *last, env },
+            Control::Do(Action::EnterBlock { block: *block, env }),
+        ),
         Node::TryCatchFinally {
             block,
             catch,
             last,
             ..
-        } => {
-            push(frames, Frame::Finally { block: *last, env })?;
-            Ok(Control::Begin(Task::Try {
+        } => with_frame(
+            frames,
+            Frame::Finally { block: *last, env },
+            Control::Begin(Task::Try {
                 block: *block,
                 catch: *catch,
                 env,
-            }))
-        }
+            }),
+        ),
         _ => Ok(undefined()),
     }
 }
@@ -200,8 +205,11 @@ pub fn begin_try(
     ensures means { IfOk result (λ control. (t : View) → ComesTo t frames.old.items (handle (control_comp t (Control.Do (Action.EnterBlock block env))) (frame_comp t (Frame.Catch catch env))) frames.new.items control) }
     ensures weight { IfOk result (λ control. (w : Weights) → frames_weight w frames.new.items + control_weight w control ≡ frames_weight w frames.old.items + (frame_weight w (Frame.Catch catch env) + control_weight w (Control.Do (Action.EnterBlock block env)))) }
 {
-    push(frames, Frame::Catch { catch, env })?;
-    Ok(Control::Do(Action::EnterBlock { block, env }))
+    with_frame(
+        frames,
+        Frame::Catch { catch, env },
+        Control::Do(Action::EnterBlock { block, env }),
+    )
 }
 
 // The name of a label that may be missing.
@@ -230,10 +238,11 @@ pub fn begin_statements(
     ensures less { IfOk result (λ control. (w : Weights) → node_weight w node.now < w first → Lighter w frames.old.items (w first + w rest + 2) frames.new.items control) }
 {
     match list_of(after, ListKind::Stmts) {
-        Some(_) => {
-            push(frames, Frame::Value(Pending::Statement { rest, env }))?;
-            Ok(begin_first(alloc, node, first, env))
-        }
+        Some(_) => with_frame(
+            frames,
+            Frame::Value(Pending::Statement { rest, env }),
+            begin_first(alloc, node, first, env),
+        ),
         None => Ok(execute(alloc, first, env)),
     }
 }
@@ -276,17 +285,15 @@ pub fn begin_declarators(
     ensures less { IfOk result (λ control. (w : Weights) → Lighter w frames.old.items (node_weight w node.now) frames.new.items control) }
 {
     match list_of(node, ListKind::Declarators) {
-        Some((first, rest)) => {
-            push(
-                frames,
-                Frame::Value(Pending::Declarator { kind, rest, env }),
-            )?;
-            Ok(Control::Begin(Task::DeclareOne {
+        Some((first, rest)) => with_frame(
+            frames,
+            Frame::Value(Pending::Declarator { kind, rest, env }),
+            Control::Begin(Task::DeclareOne {
                 kind,
                 declarator: first,
                 env,
-            }))
-        }
+            }),
+        ),
         None => Ok(undefined()),
     }
 }
@@ -305,14 +312,15 @@ pub fn begin_declarator(
 {
     match initializer {
         None => Ok(declare_only(kind, name, env)),
-        Some(value) => {
-            push(frames, Frame::Value(Pending::BindTo { kind, name, env }))?;
-            Ok(Control::Begin(Task::EvaluateNamed {
+        Some(value) => with_frame(
+            frames,
+            Frame::Value(Pending::BindTo { kind, name, env }),
+            Control::Begin(Task::EvaluateNamed {
                 title: Title::Name(name),
                 place: value,
                 env,
-            }))
-        }
+            }),
+        ),
     }
 }
 

@@ -253,11 +253,11 @@ returns-in-Try-clause-means c = IfOk-weaker c.begin_try.result _ _ (λ next mean
 pub returns-in-Try-clause-less : goal.returns-in-Try-clause-less
 returns-in-Try-clause-less c = IfOk-weaker c.begin_try.result _ _ (λ next weight. rw c.in-Try.is (omega (arith, weight place_weight))) c.begin_try.ensures.weight
 
-pub returns-in_ok-push-in-RunFile-clause-means : goal.returns-in_ok-push-in-RunFile-clause-means
-returns-in_ok-push-in-RunFile-clause-means c = λ p. rw c.in-RunFile.is (c.in_ok-push-in-RunFile.ensures.means (view_of p c.args.code.now.nodes) _)
+pub returns-in-RunFile-clause-means : goal.returns-in-RunFile-clause-means
+returns-in-RunFile-clause-means c = IfOk-weaker c.with_frame.result _ _ (λ control means p. rw c.in-RunFile.is (means (view_of p c.args.code.now.nodes))) c.with_frame.ensures.means
 
-pub returns-in_ok-push-in-RunFile-clause-less : goal.returns-in_ok-push-in-RunFile-clause-less
-returns-in_ok-push-in-RunFile-clause-less c = rw c.in-RunFile.is (omega (arith, c.in_ok-push-in-RunFile.ensures.weight place_weight))
+pub returns-in-RunFile-clause-less : goal.returns-in-RunFile-clause-less
+returns-in-RunFile-clause-less c = IfOk-weaker c.with_frame.result _ _ (λ control weight. rw c.in-RunFile.is (omega (arith, weight place_weight))) c.with_frame.ensures.weight
 
 pub returns-in-Within-clause-means : goal.returns-in-Within-clause-means
 returns-in-Within-clause-means c = IfOk-weaker c.begin_within.result _ _ (λ next means p. rw c.in-Within.is (means (view_of p c.args.code.now.nodes))) c.begin_within.ensures.means

@@ -48,23 +48,23 @@ returns-in_ok-copy-in-TemplateLiteral-clause-means c = λ t named. rw (c.in-Temp
 pub returns-in-Parenthesized-clause-means : goal.returns-in-Parenthesized-clause-means
 returns-in-Parenthesized-clause-means c = λ t named. rw c.in-Parenthesized.is refl
 
-pub returns-in_ok-push-in-NamedMember-clause-means : goal.returns-in_ok-push-in-NamedMember-clause-means
-returns-in_ok-push-in-NamedMember-clause-means c = λ t named. rw c.in-NamedMember.is (c.in_ok-push-in-NamedMember.ensures.means t _ ∙ ap (plug t c.args.frames.now.items) (ap (λ n. handle (M.comp_expr t.program (as_expr (t.tree c.in-NamedMember.object)) c.args.env.index) (M.with_value (λ v. M.get_member_of v (text (name_units n))))) (named ∙ ap name_of c.in-NamedMember.is)))
+pub returns-in-NamedMember-clause-means : goal.returns-in-NamedMember-clause-means
+returns-in-NamedMember-clause-means c = IfOk-weaker c.with_frame.result _ _ (λ control means t named. rw c.in-NamedMember.is (means t ∙ ap (plug t c.args.frames.now.items) (ap (λ n. handle (M.comp_expr t.program (as_expr (t.tree c.in-NamedMember.object)) c.args.env.index) (M.with_value (λ v. M.get_member_of v (text (name_units n))))) (named ∙ ap name_of c.in-NamedMember.is)))) c.with_frame.ensures.means
 
-pub returns-in_ok-push-in-NamedMember-clause-less : goal.returns-in_ok-push-in-NamedMember-clause-less
-returns-in_ok-push-in-NamedMember-clause-less c = λ w. rw c.in-NamedMember.is (omega (arith, c.in_ok-push-in-NamedMember.ensures.weight w))
+pub returns-in-NamedMember-clause-less : goal.returns-in-NamedMember-clause-less
+returns-in-NamedMember-clause-less c = IfOk-weaker c.with_frame.result _ _ (λ control weight w. rw c.in-NamedMember.is (omega (arith, weight w))) c.with_frame.ensures.weight
 
-pub returns-in_ok-push-in-ComputedMember-clause-means : goal.returns-in_ok-push-in-ComputedMember-clause-means
-returns-in_ok-push-in-ComputedMember-clause-means c = λ t named. rw c.in-ComputedMember.is (c.in_ok-push-in-ComputedMember.ensures.means t _)
+pub returns-in-ComputedMember-clause-means : goal.returns-in-ComputedMember-clause-means
+returns-in-ComputedMember-clause-means c = IfOk-weaker c.with_frame-in-ComputedMember.result _ _ (λ control means t named. rw c.in-ComputedMember.is (means t)) c.with_frame-in-ComputedMember.ensures.means
 
-pub returns-in_ok-push-in-ComputedMember-clause-less : goal.returns-in_ok-push-in-ComputedMember-clause-less
-returns-in_ok-push-in-ComputedMember-clause-less c = λ w. rw c.in-ComputedMember.is (omega (arith, c.in_ok-push-in-ComputedMember.ensures.weight w))
+pub returns-in-ComputedMember-clause-less : goal.returns-in-ComputedMember-clause-less
+returns-in-ComputedMember-clause-less c = IfOk-weaker c.with_frame-in-ComputedMember.result _ _ (λ control weight w. rw c.in-ComputedMember.is (omega (arith, weight w))) c.with_frame-in-ComputedMember.ensures.weight
 
-pub returns-in_ok-push-in-New-clause-means : goal.returns-in_ok-push-in-New-clause-means
-returns-in_ok-push-in-New-clause-means c = λ t named. rw c.in-New.is (c.in_ok-push-in-New.ensures.means t _)
+pub returns-in-New-clause-means : goal.returns-in-New-clause-means
+returns-in-New-clause-means c = IfOk-weaker c.with_frame-in-New.result _ _ (λ control means t named. rw c.in-New.is (means t)) c.with_frame-in-New.ensures.means
 
-pub returns-in_ok-push-in-New-clause-less : goal.returns-in_ok-push-in-New-clause-less
-returns-in_ok-push-in-New-clause-less c = λ w. rw c.in-New.is (omega (arith, c.in_ok-push-in-New.ensures.weight w))
+pub returns-in-New-clause-less : goal.returns-in-New-clause-less
+returns-in-New-clause-less c = IfOk-weaker c.with_frame-in-New.result _ _ (λ control weight w. rw c.in-New.is (omega (arith, weight w))) c.with_frame-in-New.ensures.weight
 
 pub returns-in-Call-clause-means : goal.returns-in-Call-clause-means
 returns-in-Call-clause-means c = λ t named. rw c.in-Call.is refl
@@ -78,32 +78,32 @@ returns-in-PrefixUpdate-clause-means c = λ t named. rw c.in-PrefixUpdate.is ref
 pub returns-in-Unary-clause-means : goal.returns-in-Unary-clause-means
 returns-in-Unary-clause-means c = IfOk-weaker c.begin_unary.result _ _ (λ next means t named. rw c.in-Unary.is (means t c.in-Unary.loc)) c.begin_unary.ensures.means
 
-pub returns-in_ok-push-in-Binary-clause-means : goal.returns-in_ok-push-in-Binary-clause-means
-returns-in_ok-push-in-Binary-clause-means c = λ t named. rw c.in-Binary.is (c.in_ok-push-in-Binary.ensures.means t _)
+pub returns-in-Binary-clause-means : goal.returns-in-Binary-clause-means
+returns-in-Binary-clause-means c = IfOk-weaker c.with_frame-in-Binary.result _ _ (λ control means t named. rw c.in-Binary.is (means t)) c.with_frame-in-Binary.ensures.means
 
-pub returns-in_ok-push-in-Binary-clause-less : goal.returns-in_ok-push-in-Binary-clause-less
-returns-in_ok-push-in-Binary-clause-less c = λ w. rw c.in-Binary.is (omega (arith, c.in_ok-push-in-Binary.ensures.weight w))
+pub returns-in-Binary-clause-less : goal.returns-in-Binary-clause-less
+returns-in-Binary-clause-less c = IfOk-weaker c.with_frame-in-Binary.result _ _ (λ control weight w. rw c.in-Binary.is (omega (arith, weight w))) c.with_frame-in-Binary.ensures.weight
 
-pub returns-in_ok-push-in-Logical-clause-means : goal.returns-in_ok-push-in-Logical-clause-means
-returns-in_ok-push-in-Logical-clause-means c = λ t named. rw c.in-Logical.is (c.in_ok-push-in-Logical.ensures.means t _)
+pub returns-in-Logical-clause-means : goal.returns-in-Logical-clause-means
+returns-in-Logical-clause-means c = IfOk-weaker c.with_frame-in-Logical.result _ _ (λ control means t named. rw c.in-Logical.is (means t)) c.with_frame-in-Logical.ensures.means
 
-pub returns-in_ok-push-in-Logical-clause-less : goal.returns-in_ok-push-in-Logical-clause-less
-returns-in_ok-push-in-Logical-clause-less c = λ w. rw c.in-Logical.is (omega (arith, c.in_ok-push-in-Logical.ensures.weight w))
+pub returns-in-Logical-clause-less : goal.returns-in-Logical-clause-less
+returns-in-Logical-clause-less c = IfOk-weaker c.with_frame-in-Logical.result _ _ (λ control weight w. rw c.in-Logical.is (omega (arith, weight w))) c.with_frame-in-Logical.ensures.weight
 
-pub returns-in_ok-push-in-Conditional-clause-means : goal.returns-in_ok-push-in-Conditional-clause-means
-returns-in_ok-push-in-Conditional-clause-means c = λ t named. rw c.in-Conditional.is (c.in_ok-push-in-Conditional.ensures.means t _)
+pub returns-in-Conditional-clause-means : goal.returns-in-Conditional-clause-means
+returns-in-Conditional-clause-means c = IfOk-weaker c.with_frame-in-Conditional.result _ _ (λ control means t named. rw c.in-Conditional.is (means t)) c.with_frame-in-Conditional.ensures.means
 
-pub returns-in_ok-push-in-Conditional-clause-less : goal.returns-in_ok-push-in-Conditional-clause-less
-returns-in_ok-push-in-Conditional-clause-less c = λ w. rw c.in-Conditional.is (omega (arith, c.in_ok-push-in-Conditional.ensures.weight w))
+pub returns-in-Conditional-clause-less : goal.returns-in-Conditional-clause-less
+returns-in-Conditional-clause-less c = IfOk-weaker c.with_frame-in-Conditional.result _ _ (λ control weight w. rw c.in-Conditional.is (omega (arith, weight w))) c.with_frame-in-Conditional.ensures.weight
 
 pub returns-in-Assignment-clause-means : goal.returns-in-Assignment-clause-means
 returns-in-Assignment-clause-means c = λ t named. rw (c.in-Assignment.is, c.operator_of.ensures) refl
 
-pub returns-in_ok-push-in-Comma-clause-means : goal.returns-in_ok-push-in-Comma-clause-means
-returns-in_ok-push-in-Comma-clause-means c = λ t named. rw c.in-Comma.is (c.in_ok-push-in-Comma.ensures.means t _)
+pub returns-in-Comma-clause-means : goal.returns-in-Comma-clause-means
+returns-in-Comma-clause-means c = IfOk-weaker c.with_frame-in-Comma.result _ _ (λ control means t named. rw c.in-Comma.is (means t)) c.with_frame-in-Comma.ensures.means
 
-pub returns-in_ok-push-in-Comma-clause-less : goal.returns-in_ok-push-in-Comma-clause-less
-returns-in_ok-push-in-Comma-clause-less c = λ w. rw c.in-Comma.is (omega (arith, c.in_ok-push-in-Comma.ensures.weight w))
+pub returns-in-Comma-clause-less : goal.returns-in-Comma-clause-less
+returns-in-Comma-clause-less c = IfOk-weaker c.with_frame-in-Comma.result _ _ (λ control weight w. rw c.in-Comma.is (omega (arith, weight w))) c.with_frame-in-Comma.ensures.weight
 
 pub returns-in_default-clause-means : goal.returns-in_default-clause-means
 returns-in_default-clause-means c = λ t named. rw c.primitive-in_default.ensures (ap (plug t c.args.frames.now.items) (ap (λ e. M.comp_expr t.program e c.args.env.index) (sym (other.no_expr t.tree c.args.node.now c.in_default.not-IdentifierReference c.in_default.not-This c.in_default.not-NullLiteral c.in_default.not-BooleanLiteral c.in_default.not-NumericLiteral c.in_default.not-StringLiteral c.in_default.not-ArrayLiteral c.in_default.not-ObjectLiteral c.in_default.not-FunctionExpression c.in_default.not-ArrowFunction c.in_default.not-RegularExpressionLiteral c.in_default.not-TemplateLiteral c.in_default.not-Parenthesized c.in_default.not-NamedMember c.in_default.not-ComputedMember c.in_default.not-New c.in_default.not-Call c.in_default.not-PostfixUpdate c.in_default.not-PrefixUpdate c.in_default.not-Unary c.in_default.not-Binary c.in_default.not-Logical c.in_default.not-Conditional c.in_default.not-Assignment c.in_default.not-Comma))))

@@ -17,11 +17,11 @@ returns-in-NumberKey-clause-means c = IfOk-weaker c.begin_number_key.result _ _ 
 pub returns-in-NumberKey-clause-less : goal.returns-in-NumberKey-clause-less
 returns-in-NumberKey-clause-less c = IfOk-weaker c.begin_number_key.result _ _ (λ step less w. rw c.in-NumberKey.is (omega (arith, less w))) c.begin_number_key.ensures.less
 
-pub returns-in_ok-push-in-ComputedKey-clause-means : goal.returns-in_ok-push-in-ComputedKey-clause-means
-returns-in_ok-push-in-ComputedKey-clause-means c = λ t named nowhere. rw c.in-ComputedKey.is (c.in_ok-push-in-ComputedKey.ensures.means t _)
+pub returns-in-ComputedKey-clause-means : goal.returns-in-ComputedKey-clause-means
+returns-in-ComputedKey-clause-means c = IfOk-weaker c.with_frame.result _ _ (λ control means t named nowhere. rw c.in-ComputedKey.is (means t)) c.with_frame.ensures.means
 
-pub returns-in_ok-push-in-ComputedKey-clause-less : goal.returns-in_ok-push-in-ComputedKey-clause-less
-returns-in_ok-push-in-ComputedKey-clause-less c = λ w. rw c.in-ComputedKey.is (omega (arith, c.in_ok-push-in-ComputedKey.ensures.weight w))
+pub returns-in-ComputedKey-clause-less : goal.returns-in-ComputedKey-clause-less
+returns-in-ComputedKey-clause-less c = IfOk-weaker c.with_frame.result _ _ (λ control weight w. rw c.in-ComputedKey.is (omega (arith, weight w))) c.with_frame.ensures.weight
 
 pub returns-in_default-clause-means : goal.returns-in_default-clause-means
 returns-in_default-clause-means c = λ t named nowhere. rw (other.no_key t.tree c.args.node.now c.in_default.not-NameKey c.in_default.not-StringKey c.in_default.not-NumberKey c.in_default.not-ComputedKey, nowhere) refl

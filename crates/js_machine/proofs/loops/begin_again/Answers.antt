@@ -1,3 +1,4 @@
+use Rattle.std.proofs.lemmas.Result.{IfOk-weaker}
 use Rattle.std.proofs.Common.{refl, sym, ap, ◌∙◌, arith}
 use Rattle.js_code.specs.Node.{build}
 use Rattle.js_machine.proofs.OtherForms as forms
@@ -7,11 +8,11 @@ use Rattle.js_code.specs.Part.{as_expr, as_stmt}
 use Rattle.js_machine.specs.private.Config.{labels_of, plug}
 use Rattle.js_machine.proofs.loops.begin_again.Goals as goal
 
-pub returns-in_ok-push-in-DoWhile-clause-means : goal.returns-in_ok-push-in-DoWhile-clause-means
-returns-in_ok-push-in-DoWhile-clause-means c = λ t at. rw c.in-DoWhile.is (c.in_ok-push-in-DoWhile.ensures.means t _ ∙ ap (plug t c.args.frames.now.items) (ap (λ x. handle (M.comp_expr t.program (as_expr (t.tree c.in-DoWhile.test)) c.args.env.index) (M.with_value (M.turn (as_stmt x) (labels_of t c.args.labels) c.args.env.index))) (at ∙ ap (build t.tree) c.in-DoWhile.is)))
+pub returns-in-DoWhile-clause-means : goal.returns-in-DoWhile-clause-means
+returns-in-DoWhile-clause-means c = IfOk-weaker c.with_frame.result _ _ (λ control means t at. rw c.in-DoWhile.is (means t ∙ ap (plug t c.args.frames.now.items) (ap (λ x. handle (M.comp_expr t.program (as_expr (t.tree c.in-DoWhile.test)) c.args.env.index) (M.with_value (M.turn (as_stmt x) (labels_of t c.args.labels) c.args.env.index))) (at ∙ ap (build t.tree) c.in-DoWhile.is)))) c.with_frame.ensures.means
 
-pub returns-in_ok-push-in-DoWhile-clause-less : goal.returns-in_ok-push-in-DoWhile-clause-less
-returns-in_ok-push-in-DoWhile-clause-less c = λ w. rw c.in-DoWhile.is (omega (arith, c.in_ok-push-in-DoWhile.ensures.weight w))
+pub returns-in-DoWhile-clause-less : goal.returns-in-DoWhile-clause-less
+returns-in-DoWhile-clause-less c = IfOk-weaker c.with_frame.result _ _ (λ control weight w. rw c.in-DoWhile.is (omega (arith, weight w))) c.with_frame.ensures.weight
 
 pub returns-in-For-clause-means : goal.returns-in-For-clause-means
 returns-in-For-clause-means c = λ t at. rw (c.in-For.is, ap as_stmt (at ∙ ap (build t.tree) c.in-For.is)) refl

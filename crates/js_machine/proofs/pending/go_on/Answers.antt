@@ -6,11 +6,11 @@ use Rattle.js_machine.proofs.pending.go_on.Goals as goal
 pub returns-in-NamedMember-clause-means : goal.returns-in-NamedMember-clause-means
 returns-in-NamedMember-clause-means c = λ t. rw c.in-NamedMember.is refl
 
-pub returns-in_ok-push-in-MemberObject-clause-means : goal.returns-in_ok-push-in-MemberObject-clause-means
-returns-in_ok-push-in-MemberObject-clause-means c = λ t. rw c.in-MemberObject.is (c.in_ok-push-in-MemberObject.ensures.means t _)
+pub returns-in-MemberObject-clause-means : goal.returns-in-MemberObject-clause-means
+returns-in-MemberObject-clause-means c = IfOk-weaker c.with_frame.result _ _ (λ control means t. rw c.in-MemberObject.is (means t)) c.with_frame.ensures.means
 
-pub returns-in_ok-push-in-MemberObject-clause-less : goal.returns-in_ok-push-in-MemberObject-clause-less
-returns-in_ok-push-in-MemberObject-clause-less c = λ w. rw c.in-MemberObject.is (omega (arith, c.in_ok-push-in-MemberObject.ensures.weight w))
+pub returns-in-MemberObject-clause-less : goal.returns-in-MemberObject-clause-less
+returns-in-MemberObject-clause-less c = IfOk-weaker c.with_frame.result _ _ (λ control weight w. rw c.in-MemberObject.is (omega (arith, weight w))) c.with_frame.ensures.weight
 
 pub returns-in-MemberKey-clause-means : goal.returns-in-MemberKey-clause-means
 returns-in-MemberKey-clause-means c = λ t. rw c.in-MemberKey.is refl
@@ -24,11 +24,11 @@ returns-in-Callee-clause-means c = λ t. rw (c.in-Callee.is, c.new-in-Callee.ens
 pub returns-in-Operand-clause-means : goal.returns-in-Operand-clause-means
 returns-in-Operand-clause-means c = λ t. rw c.in-Operand.is refl
 
-pub returns-in_ok-push-in-Left-clause-means : goal.returns-in_ok-push-in-Left-clause-means
-returns-in_ok-push-in-Left-clause-means c = λ t. rw c.in-Left.is (c.in_ok-push-in-Left.ensures.means t _)
+pub returns-in-Left-clause-means : goal.returns-in-Left-clause-means
+returns-in-Left-clause-means c = IfOk-weaker c.with_frame-in-Left.result _ _ (λ control means t. rw c.in-Left.is (means t)) c.with_frame-in-Left.ensures.means
 
-pub returns-in_ok-push-in-Left-clause-less : goal.returns-in_ok-push-in-Left-clause-less
-returns-in_ok-push-in-Left-clause-less c = λ w. rw c.in-Left.is (omega (arith, c.in_ok-push-in-Left.ensures.weight w))
+pub returns-in-Left-clause-less : goal.returns-in-Left-clause-less
+returns-in-Left-clause-less c = IfOk-weaker c.with_frame-in-Left.result _ _ (λ control weight w. rw c.in-Left.is (omega (arith, weight w))) c.with_frame-in-Left.ensures.weight
 
 pub returns-in-Right-clause-means : goal.returns-in-Right-clause-means
 returns-in-Right-clause-means c = λ t. rw c.in-Right.is refl
@@ -45,11 +45,11 @@ returns-in-Comma-clause-means c = λ t. rw c.in-Comma.is refl
 pub returns-in-ReferNamed-clause-means : goal.returns-in-ReferNamed-clause-means
 returns-in-ReferNamed-clause-means c = λ t. rw c.in-ReferNamed.is refl
 
-pub returns-in_ok-push-in-ReferObject-clause-means : goal.returns-in_ok-push-in-ReferObject-clause-means
-returns-in_ok-push-in-ReferObject-clause-means c = λ t. rw c.in-ReferObject.is (c.in_ok-push-in-ReferObject.ensures.means t _)
+pub returns-in-ReferObject-clause-means : goal.returns-in-ReferObject-clause-means
+returns-in-ReferObject-clause-means c = IfOk-weaker c.with_frame-in-ReferObject.result _ _ (λ control means t. rw c.in-ReferObject.is (means t)) c.with_frame-in-ReferObject.ensures.means
 
-pub returns-in_ok-push-in-ReferObject-clause-less : goal.returns-in_ok-push-in-ReferObject-clause-less
-returns-in_ok-push-in-ReferObject-clause-less c = λ w. rw c.in-ReferObject.is (omega (arith, c.in_ok-push-in-ReferObject.ensures.weight w))
+pub returns-in-ReferObject-clause-less : goal.returns-in-ReferObject-clause-less
+returns-in-ReferObject-clause-less c = IfOk-weaker c.with_frame-in-ReferObject.result _ _ (λ control weight w. rw c.in-ReferObject.is (omega (arith, weight w))) c.with_frame-in-ReferObject.ensures.weight
 
 pub returns-in-ReferKey-clause-means : goal.returns-in-ReferKey-clause-means
 returns-in-ReferKey-clause-means c = λ t. rw c.in-ReferKey.is refl
@@ -57,17 +57,17 @@ returns-in-ReferKey-clause-means c = λ t. rw c.in-ReferKey.is refl
 pub returns-in-Put-clause-means : goal.returns-in-Put-clause-means
 returns-in-Put-clause-means c = λ t. rw c.in-Put.is (ap (plug t c.args.frames.now.items) (c.put.ensures.means t))
 
-pub returns-in_ok-push-in-Old-clause-means : goal.returns-in_ok-push-in-Old-clause-means
-returns-in_ok-push-in-Old-clause-means c = λ t. rw c.in-Old.is (c.in_ok-push-in-Old.ensures.means t _)
+pub returns-in-Old-clause-means : goal.returns-in-Old-clause-means
+returns-in-Old-clause-means c = IfOk-weaker c.with_frame-in-Old.result _ _ (λ control means t. rw c.in-Old.is (means t)) c.with_frame-in-Old.ensures.means
 
-pub returns-in_ok-push-in-Old-clause-less : goal.returns-in_ok-push-in-Old-clause-less
-returns-in_ok-push-in-Old-clause-less c = λ w. rw c.in-Old.is (omega (arith, c.in_ok-push-in-Old.ensures.weight w))
+pub returns-in-Old-clause-less : goal.returns-in-Old-clause-less
+returns-in-Old-clause-less c = IfOk-weaker c.with_frame-in-Old.result _ _ (λ control weight w. rw c.in-Old.is (omega (arith, weight w))) c.with_frame-in-Old.ensures.weight
 
-pub returns-in_ok-push-in-New-clause-means : goal.returns-in_ok-push-in-New-clause-means
-returns-in_ok-push-in-New-clause-means c = λ t. rw c.in-New.is (c.in_ok-push-in-New.ensures.means t _)
+pub returns-in-New-clause-means : goal.returns-in-New-clause-means
+returns-in-New-clause-means c = IfOk-weaker c.with_frame-in-New.result _ _ (λ control means t. rw c.in-New.is (means t)) c.with_frame-in-New.ensures.means
 
-pub returns-in_ok-push-in-New-clause-less : goal.returns-in_ok-push-in-New-clause-less
-returns-in_ok-push-in-New-clause-less c = λ w. rw c.in-New.is (omega (arith, c.in_ok-push-in-New.ensures.weight w))
+pub returns-in-New-clause-less : goal.returns-in-New-clause-less
+returns-in-New-clause-less c = IfOk-weaker c.with_frame-in-New.result _ _ (λ control weight w. rw c.in-New.is (omega (arith, weight w))) c.with_frame-in-New.ensures.weight
 
 pub returns-in-Update-clause-means : goal.returns-in-Update-clause-means
 returns-in-Update-clause-means c = IfOk-weaker c.update.result _ _ (λ next means t. rw c.in-Update.is (means t)) c.update.ensures.means
@@ -141,11 +141,11 @@ returns-in-Throw-clause-means c = λ t. rw c.in-Throw.is refl
 pub returns-in-OwnName-clause-means : goal.returns-in-OwnName-clause-means
 returns-in-OwnName-clause-means c = λ t. rw c.in-OwnName.is refl
 
-pub returns-in_ok-push-in-Param-clause-means : goal.returns-in_ok-push-in-Param-clause-means
-returns-in_ok-push-in-Param-clause-means c = λ t. rw c.in-Param.is (c.in_ok-push-in-Param.ensures.means t _)
+pub returns-in-Param-clause-means : goal.returns-in-Param-clause-means
+returns-in-Param-clause-means c = IfOk-weaker c.with_frame-in-Param.result _ _ (λ control means t. rw c.in-Param.is (means t)) c.with_frame-in-Param.ensures.means
 
-pub returns-in_ok-push-in-Param-clause-less : goal.returns-in_ok-push-in-Param-clause-less
-returns-in_ok-push-in-Param-clause-less c = λ w. rw c.in-Param.is (omega (arith, c.in_ok-push-in-Param.ensures.weight w))
+pub returns-in-Param-clause-less : goal.returns-in-Param-clause-less
+returns-in-Param-clause-less c = IfOk-weaker c.with_frame-in-Param.result _ _ (λ control weight w. rw c.in-Param.is (omega (arith, weight w))) c.with_frame-in-Param.ensures.weight
 
 pub returns-in-NextParam-clause-means : goal.returns-in-NextParam-clause-means
 returns-in-NextParam-clause-means c = λ t. rw c.in-NextParam.is (ap (plug t c.args.frames.now.items) (c.next_param.ensures.means t c.args.value))

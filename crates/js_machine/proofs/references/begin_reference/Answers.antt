@@ -13,17 +13,17 @@ use Rattle.js_machine.proofs.references.begin_reference.Goals as goal
 pub returns-in-IdentifierReference-clause-means : goal.returns-in-IdentifierReference-clause-means
 returns-in-IdentifierReference-clause-means c = λ t named at. rw (c.in-IdentifierReference.is, named ∙ ap name_of c.in-IdentifierReference.is) refl
 
-pub returns-in_ok-push-in-NamedMember-clause-means : goal.returns-in_ok-push-in-NamedMember-clause-means
-returns-in_ok-push-in-NamedMember-clause-means c = λ t named at. rw c.in-NamedMember.is (c.in_ok-push-in-NamedMember.ensures.means t _ ∙ ap (plug t c.args.frames.now.items) (ap (λ n. handle (M.comp_expr t.program (as_expr (t.tree c.in-NamedMember.object)) c.args.env.index) (M.with_value (λ v. referred t c.args.next c.args.env.index (M.Member v (text (name_units n)))))) (named ∙ ap name_of c.in-NamedMember.is)))
+pub returns-in-NamedMember-clause-means : goal.returns-in-NamedMember-clause-means
+returns-in-NamedMember-clause-means c = IfOk-weaker c.with_frame.result _ _ (λ control means t named at. rw c.in-NamedMember.is (means t ∙ ap (plug t c.args.frames.now.items) (ap (λ n. handle (M.comp_expr t.program (as_expr (t.tree c.in-NamedMember.object)) c.args.env.index) (M.with_value (λ v. referred t c.args.next c.args.env.index (M.Member v (text (name_units n)))))) (named ∙ ap name_of c.in-NamedMember.is)))) c.with_frame.ensures.means
 
-pub returns-in_ok-push-in-NamedMember-clause-less : goal.returns-in_ok-push-in-NamedMember-clause-less
-returns-in_ok-push-in-NamedMember-clause-less c = λ w. rw c.in-NamedMember.is (omega (arith, c.in_ok-push-in-NamedMember.ensures.weight w))
+pub returns-in-NamedMember-clause-less : goal.returns-in-NamedMember-clause-less
+returns-in-NamedMember-clause-less c = IfOk-weaker c.with_frame.result _ _ (λ control weight w. rw c.in-NamedMember.is (omega (arith, weight w))) c.with_frame.ensures.weight
 
-pub returns-in_ok-push-in-ComputedMember-clause-means : goal.returns-in_ok-push-in-ComputedMember-clause-means
-returns-in_ok-push-in-ComputedMember-clause-means c = λ t named at. rw c.in-ComputedMember.is (c.in_ok-push-in-ComputedMember.ensures.means t _)
+pub returns-in-ComputedMember-clause-means : goal.returns-in-ComputedMember-clause-means
+returns-in-ComputedMember-clause-means c = IfOk-weaker c.with_frame-in-ComputedMember.result _ _ (λ control means t named at. rw c.in-ComputedMember.is (means t)) c.with_frame-in-ComputedMember.ensures.means
 
-pub returns-in_ok-push-in-ComputedMember-clause-less : goal.returns-in_ok-push-in-ComputedMember-clause-less
-returns-in_ok-push-in-ComputedMember-clause-less c = λ w. rw c.in-ComputedMember.is (omega (arith, c.in_ok-push-in-ComputedMember.ensures.weight w))
+pub returns-in-ComputedMember-clause-less : goal.returns-in-ComputedMember-clause-less
+returns-in-ComputedMember-clause-less c = IfOk-weaker c.with_frame-in-ComputedMember.result _ _ (λ control weight w. rw c.in-ComputedMember.is (omega (arith, weight w))) c.with_frame-in-ComputedMember.ensures.weight
 
 pub returns-in-Parenthesized-clause-means : goal.returns-in-Parenthesized-clause-means
 returns-in-Parenthesized-clause-means c = λ t named at. rw c.in-Parenthesized.is (ap (plug t c.args.frames.now.items) (ap (λ o. M.comp_reference t.program (as_expr (t.tree c.in-Parenthesized.inner)) c.args.env.index o (referred t c.args.next c.args.env.index))

@@ -1,3 +1,4 @@
+use Rattle.std.proofs.lemmas.Result.{IfOk-weaker}
 use Rattle.std.proofs.Common.{ap, arith}
 use Rattle.js_machine.specs.private.Config.{plug}
 use Rattle.js_machine.proofs.resume.resume.Goals as goal
@@ -32,11 +33,11 @@ returns-in-AfterConstruct-clause-means c = λ t. rw c.in-AfterConstruct.is (ap (
 pub returns-in-AfterStart-clause-means : goal.returns-in-AfterStart-clause-means
 returns-in-AfterStart-clause-means c = λ t. rw c.in-AfterStart.is (ap (plug t c.args.frames.now.items) (c.after_start.ensures.means t))
 
-pub returns-in_ok-push-in-Finally-clause-means : goal.returns-in_ok-push-in-Finally-clause-means
-returns-in_ok-push-in-Finally-clause-means c = λ t. rw c.in-Finally.is (c.in_ok-push-in-Finally.ensures.means t _)
+pub returns-in-Finally-clause-means : goal.returns-in-Finally-clause-means
+returns-in-Finally-clause-means c = IfOk-weaker c.with_frame.result _ _ (λ control means t. rw c.in-Finally.is (means t)) c.with_frame.ensures.means
 
-pub returns-in_ok-push-in-Finally-clause-less : goal.returns-in_ok-push-in-Finally-clause-less
-returns-in_ok-push-in-Finally-clause-less c = λ w. rw c.in-Finally.is (omega (arith, c.in_ok-push-in-Finally.ensures.weight w))
+pub returns-in-Finally-clause-less : goal.returns-in-Finally-clause-less
+returns-in-Finally-clause-less c = IfOk-weaker c.with_frame.result _ _ (λ control weight w. rw c.in-Finally.is (omega (arith, weight w))) c.with_frame.ensures.weight
 
 pub returns-in-AfterTurn-clause-less : goal.returns-in-AfterTurn-clause-less
 returns-in-AfterTurn-clause-less c = λ w. rw c.in-AfterTurn.is (omega (arith, c.after_turn.ensures.less w))

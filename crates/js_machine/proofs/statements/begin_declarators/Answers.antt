@@ -1,12 +1,13 @@
+use Rattle.std.proofs.lemmas.Result.{IfOk-weaker}
 use Rattle.std.proofs.Common.{refl, arith}
 use Rattle.js_machine.proofs.OtherNodes as other
 use Rattle.js_machine.proofs.statements.begin_declarators.Goals as goal
 
-pub returns-in_ok-push-in-Some-clause-means : goal.returns-in_ok-push-in-Some-clause-means
-returns-in_ok-push-in-Some-clause-means c = λ t. rw c.in-Some.ensures.more (c.in_ok-push-in-Some.ensures.means t _)
+pub returns-in-Some-clause-means : goal.returns-in-Some-clause-means
+returns-in-Some-clause-means c = IfOk-weaker c.with_frame.result _ _ (λ control means t. rw c.in-Some.ensures.more (means t)) c.with_frame.ensures.means
 
-pub returns-in_ok-push-in-Some-clause-less : goal.returns-in_ok-push-in-Some-clause-less
-returns-in_ok-push-in-Some-clause-less c = λ w. rw c.in-Some.ensures.more (omega (arith, c.in_ok-push-in-Some.ensures.weight w))
+pub returns-in-Some-clause-less : goal.returns-in-Some-clause-less
+returns-in-Some-clause-less c = IfOk-weaker c.with_frame.result _ _ (λ control weight w. rw c.in-Some.ensures.more (omega (arith, weight w))) c.with_frame.ensures.weight
 
 pub returns-in-None-clause-means : goal.returns-in-None-clause-means
 returns-in-None-clause-means c = λ t. rw (c.undefined.ensures, other.no_declarators t.tree c.args.node.now (c.list_of.ensures.end c.in-None.is)) refl

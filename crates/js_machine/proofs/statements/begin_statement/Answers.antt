@@ -6,7 +6,10 @@ use Rattle.js_meaning.specs.Effects.{handle}
 use Rattle.js_code.specs.Node.{build}
 use Rattle.js_machine.proofs.OtherForms as forms
 use Rattle.js_code.specs.Part.{as_expr, as_for_init, as_for_target, as_stmt}
-use Rattle.js_machine.specs.private.Config.{name_of, expr_if, labels_of, plug, control_comp}
+use Rattle.js_machine.specs.private.Config.{name_of, expr_if, frame_comp, labels_of, plug, control_comp}
+use Rattle.js_machine.specs.declared.data.Control.TheVariants as control
+use Rattle.js_machine.specs.declared.data.Frame.TheVariants as frame
+use Rattle.js_machine.specs.declared.data.Task.TheVariants as task
 use Rattle.js_machine.proofs.Forms.{returned_is}
 use Rattle.js_machine.proofs.statements.begin_statement.Goals as goal
 
@@ -16,26 +19,26 @@ returns-in-Block-clause-means c = λ t named at. rw c.in-Block.is refl
 pub returns-in-VariableDeclaration-clause-means : goal.returns-in-VariableDeclaration-clause-means
 returns-in-VariableDeclaration-clause-means c = λ t named at. rw c.in-VariableDeclaration.is refl
 
-pub returns-in_ok-push-in-Expression-clause-means : goal.returns-in_ok-push-in-Expression-clause-means
-returns-in_ok-push-in-Expression-clause-means c = λ t named at. rw c.in-Expression.is (c.in_ok-push-in-Expression.ensures.means t _)
+pub returns-in-Expression-clause-means : goal.returns-in-Expression-clause-means
+returns-in-Expression-clause-means c = IfOk-weaker c.with_frame.result _ _ (λ control means t named at. rw c.in-Expression.is (means t)) c.with_frame.ensures.means
 
-pub returns-in_ok-push-in-Expression-clause-less : goal.returns-in_ok-push-in-Expression-clause-less
-returns-in_ok-push-in-Expression-clause-less c = λ w. rw c.in-Expression.is (omega (arith, c.in_ok-push-in-Expression.ensures.weight w))
+pub returns-in-Expression-clause-less : goal.returns-in-Expression-clause-less
+returns-in-Expression-clause-less c = IfOk-weaker c.with_frame.result _ _ (λ control weight w. rw c.in-Expression.is (omega (arith, weight w))) c.with_frame.ensures.weight
 
-pub returns-in_ok-push-in-If-clause-means : goal.returns-in_ok-push-in-If-clause-means
-returns-in_ok-push-in-If-clause-means c = λ t named at. rw c.in-If.is (c.in_ok-push-in-If.ensures.means t _)
+pub returns-in-If-clause-means : goal.returns-in-If-clause-means
+returns-in-If-clause-means c = IfOk-weaker c.with_frame-in-If.result _ _ (λ control means t named at. rw c.in-If.is (means t)) c.with_frame-in-If.ensures.means
 
-pub returns-in_ok-push-in-If-clause-less : goal.returns-in_ok-push-in-If-clause-less
-returns-in_ok-push-in-If-clause-less c = λ w. rw c.in-If.is (omega (arith, c.in_ok-push-in-If.ensures.weight w))
+pub returns-in-If-clause-less : goal.returns-in-If-clause-less
+returns-in-If-clause-less c = IfOk-weaker c.with_frame-in-If.result _ _ (λ control weight w. rw c.in-If.is (omega (arith, weight w))) c.with_frame-in-If.ensures.weight
 
 pub returns-in-DoWhile-clause-means : goal.returns-in-DoWhile-clause-means
 returns-in-DoWhile-clause-means c = λ t named at. rw (c.in-DoWhile.is, ap as_stmt (at ∙ ap (build t.tree) c.in-DoWhile.is)) refl
 
-pub returns-in_ok-push-in-While-clause-means : goal.returns-in_ok-push-in-While-clause-means
-returns-in_ok-push-in-While-clause-means c = λ t named at. rw c.in-While.is (c.in_ok-push-in-While.ensures.means t _ ∙ ap (plug t c.args.frames.now.items) (ap (λ x. handle (M.comp_expr t.program (as_expr (t.tree c.in-While.test)) c.args.env.index) (M.with_value (M.turn (as_stmt x) (labels_of t c.args.labels) c.args.env.index))) (at ∙ ap (build t.tree) c.in-While.is)))
+pub returns-in-While-clause-means : goal.returns-in-While-clause-means
+returns-in-While-clause-means c = IfOk-weaker c.with_frame-in-While.result _ _ (λ control means t named at. rw c.in-While.is (means t ∙ ap (plug t c.args.frames.now.items) (ap (λ x. handle (M.comp_expr t.program (as_expr (t.tree c.in-While.test)) c.args.env.index) (M.with_value (M.turn (as_stmt x) (labels_of t c.args.labels) c.args.env.index))) (at ∙ ap (build t.tree) c.in-While.is)))) c.with_frame-in-While.ensures.means
 
-pub returns-in_ok-push-in-While-clause-less : goal.returns-in_ok-push-in-While-clause-less
-returns-in_ok-push-in-While-clause-less c = λ w. rw c.in-While.is (omega (arith, c.in_ok-push-in-While.ensures.weight w))
+pub returns-in-While-clause-less : goal.returns-in-While-clause-less
+returns-in-While-clause-less c = IfOk-weaker c.with_frame-in-While.result _ _ (λ control weight w. rw c.in-While.is (omega (arith, weight w))) c.with_frame-in-While.ensures.weight
 
 pub returns-in-For-clause-means : goal.returns-in-For-clause-means
 returns-in-For-clause-means c = λ t named at. rw c.in-For.is (ap (plug t c.args.frames.now.items) (ap (λ x. M.in_scope (init_scope (as_for_init (t.tree c.in-For.init))) c.args.env.index (λ inner. handle (M.comp_for_init t.program (as_for_init (t.tree c.in-For.init)) inner) (M.with_value (λ v.
@@ -55,45 +58,46 @@ returns-in_ok-copied-in-Continue-clause-means c = λ t named at. rw (c.in-Contin
 pub returns-in_ok-copied-in-Break-clause-means : goal.returns-in_ok-copied-in-Break-clause-means
 returns-in_ok-copied-in-Break-clause-means c = λ t named at. rw (c.in-Break.is, c.in_ok-copied-in-Break.ensures) refl
 
-pub returns-in_ok-push-in-Return-clause-means : goal.returns-in_ok-push-in-Return-clause-means
-returns-in_ok-push-in-Return-clause-means c = λ t named at. rw c.in-Return.is (c.in_ok-push-in-Return.ensures.means t _ ∙ ap (plug t c.args.frames.now.items) (returned_is t.program (expr_if t c.in-Return.value) c.args.env.index))
+pub returns-in-Return-clause-means : goal.returns-in-Return-clause-means
+returns-in-Return-clause-means c = IfOk-weaker c.with_frame-in-Return.result _ _ (λ control means t named at. rw c.in-Return.is (means t ∙ ap (plug t c.args.frames.now.items) (returned_is t.program (expr_if t c.in-Return.value) c.args.env.index))) c.with_frame-in-Return.ensures.means
 
-pub returns-in_ok-push-in-Return-clause-less : goal.returns-in_ok-push-in-Return-clause-less
-returns-in_ok-push-in-Return-clause-less c = λ w. rw c.in-Return.is (omega (arith, c.in_ok-push-in-Return.ensures.weight w))
+pub returns-in-Return-clause-less : goal.returns-in-Return-clause-less
+returns-in-Return-clause-less c = IfOk-weaker c.with_frame-in-Return.result _ _ (λ control weight w. rw c.in-Return.is (omega (arith, weight w))) c.with_frame-in-Return.ensures.weight
 
-pub returns-in_ok-push-in-Switch-clause-means : goal.returns-in_ok-push-in-Switch-clause-means
-returns-in_ok-push-in-Switch-clause-means c = λ t named at. rw c.in-Switch.is (c.in_ok-push-in-Switch.ensures.means t _)
+pub returns-in-Switch-clause-means : goal.returns-in-Switch-clause-means
+returns-in-Switch-clause-means c = IfOk-weaker c.with_frame-in-Switch.result _ _ (λ control means t named at. rw c.in-Switch.is (means t)) c.with_frame-in-Switch.ensures.means
 
-pub returns-in_ok-push-in-Switch-clause-less : goal.returns-in_ok-push-in-Switch-clause-less
-returns-in_ok-push-in-Switch-clause-less c = λ w. rw c.in-Switch.is (omega (arith, c.in_ok-push-in-Switch.ensures.weight w))
+pub returns-in-Switch-clause-less : goal.returns-in-Switch-clause-less
+returns-in-Switch-clause-less c = IfOk-weaker c.with_frame-in-Switch.result _ _ (λ control weight w. rw c.in-Switch.is (omega (arith, weight w))) c.with_frame-in-Switch.ensures.weight
 
-pub returns-in_ok-push-in-Labelled-clause-means : goal.returns-in_ok-push-in-Labelled-clause-means
-returns-in_ok-push-in-Labelled-clause-means c = λ t named at. rw (c.in-Labelled.is, c.in_ok-labels-in-Labelled.ensures) (c.in_ok-push-in-Labelled.ensures.means t _
-    ∙ ap (λ n. plug t c.args.frames.now.items (handle (M.comp_stmt t.program (as_stmt (t.tree c.in-Labelled.body)) (n ∷ labels_of t c.args.labels) c.args.env.index) (M.after_label n))) (named ∙ ap name_of c.in-Labelled.is))
+pub returns-in_ok-labels-in-Labelled-clause-means : goal.returns-in_ok-labels-in-Labelled-clause-means
+returns-in_ok-labels-in-Labelled-clause-means c = IfOk-weaker c.with_frame-in-Labelled.result _ _ (λ next means t named at. rw c.in-Labelled.is (means t
+    ∙ ap (λ l. plug t c.args.frames.now.items (handle (control_comp t (control.Begin (task.Execute c.in-Labelled.body l c.args.env))) (frame_comp t (frame.AfterLabel c.args.place)))) c.in_ok-labels-in-Labelled.ensures
+    ∙ ap (λ n. plug t c.args.frames.now.items (handle (M.comp_stmt t.program (as_stmt (t.tree c.in-Labelled.body)) (n ∷ labels_of t c.args.labels) c.args.env.index) (M.after_label n))) (named ∙ ap name_of c.in-Labelled.is))) c.with_frame-in-Labelled.ensures.means
 
-pub returns-in_ok-push-in-Labelled-clause-less : goal.returns-in_ok-push-in-Labelled-clause-less
-returns-in_ok-push-in-Labelled-clause-less c = λ w. rw c.in-Labelled.is (omega (arith, c.in_ok-push-in-Labelled.ensures.weight w))
+pub returns-in_ok-labels-in-Labelled-clause-less : goal.returns-in_ok-labels-in-Labelled-clause-less
+returns-in_ok-labels-in-Labelled-clause-less c = IfOk-weaker c.with_frame-in-Labelled.result _ _ (λ control weight w. rw c.in-Labelled.is (omega (arith, weight w))) c.with_frame-in-Labelled.ensures.weight
 
-pub returns-in_ok-push-in-Throw-clause-means : goal.returns-in_ok-push-in-Throw-clause-means
-returns-in_ok-push-in-Throw-clause-means c = λ t named at. rw c.in-Throw.is (c.in_ok-push-in-Throw.ensures.means t _)
+pub returns-in-Throw-clause-means : goal.returns-in-Throw-clause-means
+returns-in-Throw-clause-means c = IfOk-weaker c.with_frame-in-Throw.result _ _ (λ control means t named at. rw c.in-Throw.is (means t)) c.with_frame-in-Throw.ensures.means
 
-pub returns-in_ok-push-in-Throw-clause-less : goal.returns-in_ok-push-in-Throw-clause-less
-returns-in_ok-push-in-Throw-clause-less c = λ w. rw c.in-Throw.is (omega (arith, c.in_ok-push-in-Throw.ensures.weight w))
+pub returns-in-Throw-clause-less : goal.returns-in-Throw-clause-less
+returns-in-Throw-clause-less c = IfOk-weaker c.with_frame-in-Throw.result _ _ (λ control weight w. rw c.in-Throw.is (omega (arith, weight w))) c.with_frame-in-Throw.ensures.weight
 
 pub returns-in-TryCatch-clause-means : goal.returns-in-TryCatch-clause-means
 returns-in-TryCatch-clause-means c = IfOk-weaker c.begin_try.result _ _ (λ next means t named at. rw c.in-TryCatch.is (means t)) c.begin_try.ensures.means
 
-pub returns-in_ok-push-in-TryFinally-clause-means : goal.returns-in_ok-push-in-TryFinally-clause-means
-returns-in_ok-push-in-TryFinally-clause-means c = λ t named at. rw c.in-TryFinally.is (c.in_ok-push-in-TryFinally.ensures.means t _)
+pub returns-in-TryFinally-clause-means : goal.returns-in-TryFinally-clause-means
+returns-in-TryFinally-clause-means c = IfOk-weaker c.with_frame-in-TryFinally.result _ _ (λ control means t named at. rw c.in-TryFinally.is (means t)) c.with_frame-in-TryFinally.ensures.means
 
-pub returns-in_ok-push-in-TryFinally-clause-less : goal.returns-in_ok-push-in-TryFinally-clause-less
-returns-in_ok-push-in-TryFinally-clause-less c = λ w. rw c.in-TryFinally.is (omega (arith, c.in_ok-push-in-TryFinally.ensures.weight w))
+pub returns-in-TryFinally-clause-less : goal.returns-in-TryFinally-clause-less
+returns-in-TryFinally-clause-less c = IfOk-weaker c.with_frame-in-TryFinally.result _ _ (λ control weight w. rw c.in-TryFinally.is (omega (arith, weight w))) c.with_frame-in-TryFinally.ensures.weight
 
-pub returns-in_ok-push-in-TryCatchFinally-clause-means : goal.returns-in_ok-push-in-TryCatchFinally-clause-means
-returns-in_ok-push-in-TryCatchFinally-clause-means c = λ t named at. rw c.in-TryCatchFinally.is (c.in_ok-push-in-TryCatchFinally.ensures.means t _)
+pub returns-in-TryCatchFinally-clause-means : goal.returns-in-TryCatchFinally-clause-means
+returns-in-TryCatchFinally-clause-means c = IfOk-weaker c.with_frame-in-TryCatchFinally.result _ _ (λ control means t named at. rw c.in-TryCatchFinally.is (means t)) c.with_frame-in-TryCatchFinally.ensures.means
 
-pub returns-in_ok-push-in-TryCatchFinally-clause-less : goal.returns-in_ok-push-in-TryCatchFinally-clause-less
-returns-in_ok-push-in-TryCatchFinally-clause-less c = λ w. rw c.in-TryCatchFinally.is (omega (arith, c.in_ok-push-in-TryCatchFinally.ensures.weight w))
+pub returns-in-TryCatchFinally-clause-less : goal.returns-in-TryCatchFinally-clause-less
+returns-in-TryCatchFinally-clause-less c = IfOk-weaker c.with_frame-in-TryCatchFinally.result _ _ (λ control weight w. rw c.in-TryCatchFinally.is (omega (arith, weight w))) c.with_frame-in-TryCatchFinally.ensures.weight
 
 pub returns-in_default-clause-means : goal.returns-in_default-clause-means
 returns-in_default-clause-means c = λ t named at. rw c.undefined.ensures (ap (plug t c.args.frames.now.items) (sym (forms.else_stmt t.program _ c.args.env.index t.tree c.args.node.now c.in_default.not-Block c.in_default.not-VariableDeclaration c.in_default.not-Expression c.in_default.not-If c.in_default.not-DoWhile c.in_default.not-While c.in_default.not-For c.in_default.not-ForIn c.in_default.not-ForOf c.in_default.not-Continue c.in_default.not-Break c.in_default.not-Return c.in_default.not-Switch c.in_default.not-Labelled c.in_default.not-Throw c.in_default.not-TryCatch c.in_default.not-TryFinally c.in_default.not-TryCatchFinally)))
