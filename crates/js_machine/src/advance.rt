@@ -50,12 +50,16 @@ pub fn advance(
     let mut at = control;
     'transitions: loop {
         match at {
-            Control::Begin(task) => match at_once(alloc, code, words, &mut state.heap, &task)? {
-                Some(control) => {
+            Control::Begin(task) => match at_once(alloc, code, words, &mut state.heap, &task) {
+                Ok(Some(control)) => {
                     drop(task);
                     at = control;
                 }
-                None => at = begin(alloc, code, words, frames, task)?,
+                Ok(None) => at = begin(alloc, code, words, frames, task)?,
+                Err(failed) => {
+                    drop(task);
+                    return Err(failed);
+                }
             },
             Control::Give(completion) => match frames.pop() {
                 None => return Ok(Rest::Completed(completion)),

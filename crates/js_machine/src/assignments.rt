@@ -46,11 +46,20 @@ pub fn assign(
     let Some(reference) = refer(alloc, code, words, heap, target, env)? else {
         return Ok(None);
     };
-    let Some(value) = new_value(alloc, code, words, heap, operator, &reference, value, env)? else {
-        return Ok(None);
-    };
-    let done = put(alloc, code, words, heap, reference, env, value)?;
-    Ok(Some(done))
+    match new_value(alloc, code, words, heap, operator, &reference, value, env) {
+        Ok(Some(value)) => {
+            let done = put(alloc, code, words, heap, reference, env, value)?;
+            Ok(Some(done))
+        }
+        Ok(None) => {
+            drop(reference);
+            Ok(None)
+        }
+        Err(failed) => {
+            drop(reference);
+            Err(failed)
+        }
+    }
 }
 
 /// The reference that an expression is, where it is a name, or a member of operands.
@@ -81,13 +90,20 @@ pub fn refer(
             let Some(base) = operand(alloc, code, words, heap, *object, env, LEVELS)? else {
                 return Ok(None);
             };
-            let Some(key) = operand(alloc, code, words, heap, *key, env, LEVELS)? else {
-                return Ok(None);
-            };
-            Ok(Some(Reference::Member {
-                base,
-                key: MemberKey::Value(key),
-            }))
+            match operand(alloc, code, words, heap, *key, env, LEVELS) {
+                Ok(Some(key)) => Ok(Some(Reference::Member {
+                    base,
+                    key: MemberKey::Value(key),
+                })),
+                Ok(None) => {
+                    drop(base);
+                    Ok(None)
+                }
+                Err(failed) => {
+                    drop(base);
+                    Err(failed)
+                }
+            }
         }
         _ => Ok(None),
     }
@@ -115,10 +131,22 @@ fn new_value(
             let Some(old) = get(alloc, code, words, heap, reference, env)? else {
                 return Ok(None);
             };
-            let Some(right) = operand(alloc, code, words, heap, value, env, LEVELS)? else {
-                return Ok(None);
-            };
-            operated(alloc, operator, &old, &right)
+            match operand(alloc, code, words, heap, value, env, LEVELS) {
+                Ok(Some(right)) => {
+                    let new = operated(alloc, operator, &old, &right);
+                    drop(old);
+                    drop(right);
+                    new
+                }
+                Ok(None) => {
+                    drop(old);
+                    Ok(None)
+                }
+                Err(failed) => {
+                    drop(old);
+                    Err(failed)
+                }
+            }
         }
     }
 }
@@ -199,16 +227,26 @@ pub fn update_reference(
         Turns (M.updates prefix operator env.index (reference_of (view_of p code.now.nodes) reference)) heap.old (done_comp done) heap.new)) }
     ensures none { result ≡ Ok None → heap_of heap.new ≡ heap_of heap.old }
 {
-    let Some(old) = get_number(alloc, code, words, heap, &reference, env)? else {
-        return Ok(None);
-    };
-    match step(operator, old) {
-        Ok(new) => {
-            let value = Value::Primitive(Primitive::Number(new));
-            let done = put(alloc, code, words, heap, reference, env, value)?;
-            Ok(Some(before_number(done, prefix, new, old)))
+    match get_number(alloc, code, words, heap, &reference, env) {
+        Ok(Some(old)) => match step(operator, old) {
+            Ok(new) => {
+                let value = Value::Primitive(Primitive::Number(new));
+                let done = put(alloc, code, words, heap, reference, env, value)?;
+                Ok(Some(before_number(done, prefix, new, old)))
+            }
+            Err(_) => {
+                drop(reference);
+                Ok(None)
+            }
+        },
+        Ok(None) => {
+            drop(reference);
+            Ok(None)
         }
-        Err(_) => Ok(None),
+        Err(failed) => {
+            drop(reference);
+            Err(failed)
+        }
     }
 }
 
@@ -225,10 +263,14 @@ fn get_number(
         Turns (handle (M.get_value env.index (reference_of (view_of p code.now.nodes) reference.now)) (M.with_value (λ v. M.numbered (number_told v) next))) heap.now (next old) heap.now)) }
 {
     match get(alloc, code, words, heap, reference, env)? {
-        Some(value) => match to_number(&value) {
-            Ok(number) => Ok(Some(number)),
-            Err(_) => Ok(None),
-        },
+        Some(value) => {
+            let number = to_number(&value);
+            drop(value);
+            match number {
+                Ok(number) => Ok(Some(number)),
+                Err(_) => Ok(None),
+            }
+        }
         None => Ok(None),
     }
 }
@@ -238,7 +280,10 @@ fn before_number(done: Done, prefix: bool, new: i64, old: i64) -> Done
     ensures { done_comp result ≡ handle (done_comp done) (M.with_value (λ value. M.give (M.number_value (if prefix then new else old)))) }
 {
     match done {
-        Done::Gives(_) => Done::Gives(chosen(prefix, new, old)),
+        Done::Gives(value) => {
+            drop(value);
+            Done::Gives(chosen(prefix, new, old))
+        }
         Done::Throws(complaint) => Done::Throws(complaint),
         Done::Refuses(kind) => Done::Refuses(kind),
     }
@@ -260,8 +305,9 @@ pub fn put(
     match reference {
         Reference::Name(name) => put_name(heap, name_at(code, words, name), env, value),
         Reference::Member { base, key } => {
-            let key = key_value(alloc, code, words, key)?;
-            put_value(alloc, heap, &base, &key, value)
+            let done = put_by_key(alloc, code, words, heap, &base, key, value);
+            drop(base);
+            done
         }
     }
 }
@@ -273,9 +319,43 @@ fn put_name(heap: &mut Heap, name: &SharedName, env: Env, value: Value) -> Resul
     let given = value.copy()?;
     match heap.assign_name(env, name, value) {
         Some(Assign::Done) => Ok(Done::Gives(given)),
-        Some(Assign::Dead) => Ok(Done::Throws(Complaint::NotInitialised)),
-        Some(Assign::Constant) => Ok(Done::Throws(Complaint::NotAssignable)),
-        None => Ok(Done::Throws(Complaint::NotDefined)),
+        Some(Assign::Dead) => {
+            drop(given);
+            Ok(Done::Throws(Complaint::NotInitialised))
+        }
+        Some(Assign::Constant) => {
+            drop(given);
+            Ok(Done::Throws(Complaint::NotAssignable))
+        }
+        None => {
+            drop(given);
+            Ok(Done::Throws(Complaint::NotDefined))
+        }
+    }
+}
+
+// For a member by its key.
+fn put_by_key(
+    alloc: Global,
+    code: &Code,
+    words: &Words,
+    heap: &mut Heap,
+    base: &Value,
+    key: MemberKey,
+    value: Value,
+) -> Result<Done, Memory>
+    ensures { IfOk result (λ done. (p : Sources) → Turns (M.changes (put_told base.now (key_of (view_of p code.now.nodes) key) value) value) heap.old (done_comp done) heap.new) }
+{
+    match key_value(alloc, code, words, key) {
+        Ok(key) => {
+            let done = put_value(alloc, heap, base, &key, value);
+            drop(key);
+            done
+        }
+        Err(failed) => {
+            drop(value);
+            Err(failed)
+        }
     }
 }
 
@@ -292,8 +372,17 @@ fn put_value(
     let given = value.copy()?;
     match put_member(alloc, heap, base, key, value) {
         Ok(()) => Ok(Done::Gives(given)),
-        Err(Halt::Throw(complaint)) => Ok(Done::Throws(complaint)),
-        Err(Halt::Refuse(kind)) => Ok(Done::Refuses(kind)),
-        Err(Halt::Memory) => Err(AllocError),
+        Err(Halt::Throw(complaint)) => {
+            drop(given);
+            Ok(Done::Throws(complaint))
+        }
+        Err(Halt::Refuse(kind)) => {
+            drop(given);
+            Ok(Done::Refuses(kind))
+        }
+        Err(Halt::Memory) => {
+            drop(given);
+            Err(AllocError)
+        }
     }
 }

@@ -328,7 +328,10 @@ fn before(done: Done, next: Control) -> Control
     ensures less { (w : Weights) → control_weight w result ≤ 1 + control_weight w next }
 {
     match done {
-        Done::Gives(_) => next,
+        Done::Gives(value) => {
+            drop(value);
+            next
+        }
         Done::Throws(complaint) => {
             drop(next);
             Control::Do(Action::Throw(complaint))

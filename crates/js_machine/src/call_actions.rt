@@ -31,7 +31,7 @@ pub fn call(heap: &Heap, callee: Value, this: Value, arguments: Items<Value>) ->
         Value::Object(callee) => call_object(heap, callee, this, arguments),
         Value::Primitive(value) => {
             drop(value);
-            not_a_function()
+            not_a_function(this, arguments)
         }
     }
 }
@@ -55,17 +55,19 @@ fn call_object(heap: &Heap, callee: Object, this: Value, arguments: Items<Value>
             this,
             arguments,
         }),
-        ObjectKind::Plain => not_a_function(),
-        ObjectKind::Array => not_a_function(),
-        ObjectKind::Error => not_a_function(),
-        ObjectKind::RegExp => not_a_function(),
+        ObjectKind::Plain => not_a_function(this, arguments),
+        ObjectKind::Array => not_a_function(this, arguments),
+        ObjectKind::Error => not_a_function(this, arguments),
+        ObjectKind::RegExp => not_a_function(this, arguments),
     }
 }
 
-// The error that what is called is no function.
-fn not_a_function() -> Control
+// The error that what is called is no function, in place of a call.
+fn not_a_function(this: Value, arguments: Items<Value>) -> Control
     ensures { result ≡ Control.Do (Action.Throw Complaint.NotAFunction) }
 {
+    drop(this);
+    drop(arguments);
     Control::Do(Action::Throw(Complaint::NotAFunction))
 }
 
@@ -80,7 +82,7 @@ pub fn construct(code: &Code, heap: &Heap, maker: Value, arguments: Items<Value>
         Value::Object(maker) => construct_object(code, heap, maker, arguments),
         Value::Primitive(value) => {
             drop(value);
-            not_a_constructor()
+            not_a_constructor(arguments)
         }
     }
 }
@@ -96,17 +98,18 @@ fn construct_object(code: &Code, heap: &Heap, maker: Object, arguments: Items<Va
         ObjectKind::Written(number, environment) => {
             construct_written(code, maker, *number, *environment, arguments)
         }
-        ObjectKind::Plain => not_a_constructor(),
-        ObjectKind::Array => not_a_constructor(),
-        ObjectKind::Error => not_a_constructor(),
-        ObjectKind::RegExp => not_a_constructor(),
+        ObjectKind::Plain => not_a_constructor(arguments),
+        ObjectKind::Array => not_a_constructor(arguments),
+        ObjectKind::Error => not_a_constructor(arguments),
+        ObjectKind::RegExp => not_a_constructor(arguments),
     }
 }
 
-// The error that what is called by `new` is no constructor.
-fn not_a_constructor() -> Control
+// The error that what is called by `new` is no constructor, in place of a construction.
+fn not_a_constructor(arguments: Items<Value>) -> Control
     ensures { result ≡ Control.Do (Action.Throw Complaint.NotAConstructor) }
 {
+    drop(arguments);
     Control::Do(Action::Throw(Complaint::NotAConstructor))
 }
 
@@ -124,7 +127,7 @@ fn construct_built_in(maker: Object, function: u32, arguments: Items<Value>) -> 
             arguments,
         })
     } else {
-        not_a_constructor()
+        not_a_constructor(arguments)
     }
 }
 
@@ -148,7 +151,7 @@ fn construct_written(
             arguments,
         })
     } else {
-        not_a_constructor()
+        not_a_constructor(arguments)
     }
 }
 

@@ -40,7 +40,11 @@ pub fn choose_expression(
     ensures less { IfOk result (λ found. IfSome found (λ control. (w : Weights) → control_weight w control < w holds + w fails + 1)) }
 {
     match operand(alloc, code, words, heap, test, env, LEVELS)? {
-        Some(value) => Ok(Some(choose(holds, fails, env, &value))),
+        Some(value) => {
+            let control = choose(holds, fails, env, &value);
+            drop(value);
+            Ok(Some(control))
+        }
         None => Ok(None),
     }
 }
@@ -84,7 +88,11 @@ pub fn choose_one(
     ensures less { IfOk result (λ found. IfSome found (λ control. (w : Weights) → control_weight w control < w holds + w fails + 2)) }
 {
     match operand(alloc, code, words, heap, test, env, LEVELS)? {
-        Some(value) => Ok(Some(choose_statement(alloc, holds, fails, env, &value))),
+        Some(value) => {
+            let control = choose_statement(alloc, holds, fails, env, &value);
+            drop(value);
+            Ok(Some(control))
+        }
         None => Ok(None),
     }
 }
@@ -108,8 +116,17 @@ pub fn choose_turn(
 {
     match operand(alloc, code, words, heap, test, env, LEVELS)? {
         Some(value) => {
-            let labels = copy_labels(alloc, labels)?;
-            Ok(Some(turn(statement, labels, env, &value)))
+            match copy_labels(alloc, labels) {
+                Ok(labels) => {
+                    let control = turn(statement, labels, env, &value);
+                    drop(value);
+                    Ok(Some(control))
+                }
+                Err(failed) => {
+                    drop(value);
+                    Err(failed)
+                }
+            }
         }
         None => Ok(None),
     }

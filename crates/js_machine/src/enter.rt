@@ -87,16 +87,21 @@ pub fn enter(alloc: Global, code: &Code, state: &mut State, entry: Entry) -> Res
             maker,
             this,
             arguments,
-        } => call_built_in(
-            alloc,
-            code,
-            state,
-            callee,
-            function,
-            maker,
-            &this,
-            arguments.as_slice(),
-        ),
+        } => {
+            let step = call_built_in(
+                alloc,
+                code,
+                state,
+                callee,
+                function,
+                maker,
+                &this,
+                arguments.as_slice(),
+            );
+            drop(this);
+            drop(arguments);
+            step
+        }
     }
 }
 
@@ -152,10 +157,14 @@ fn call_function(
                 }),
             )
         }
-        None => Step::Push(
-            frame,
-            Control::Give(Completion::Normal(Value::Primitive(Primitive::Undefined))),
-        ),
+        None => {
+            drop(this);
+            drop(arguments);
+            Step::Push(
+                frame,
+                Control::Give(Completion::Normal(Value::Primitive(Primitive::Undefined))),
+            )
+        }
     }
 }
 
@@ -164,8 +173,14 @@ fn this_of(code: &Code, function: usize, this: Value) -> Option<Value>
     ensures { result ≡ own_this (as_code (reader code.now.nodes function)) this }
 {
     match code.node(function) {
-        Node::ArrowExpression { .. } => None,
-        Node::ArrowBlock { .. } => None,
+        Node::ArrowExpression { .. } => {
+            drop(this);
+            None
+        }
+        Node::ArrowBlock { .. } => {
+            drop(this);
+            None
+        }
         Node::Function { .. } => Some(this),
         _ => Some(this),
     }
@@ -244,15 +259,17 @@ fn hand_on(
         Value::Object(callee) => hand_object(alloc, code, state, callee, this, arguments),
         Value::Primitive(value) => {
             drop(value);
-            Ok(not_a_function())
+            Ok(not_a_function(this, arguments))
         }
     }
 }
 
-// The error that what is called is no function.
-fn not_a_function() -> Step
+// The error that what is called is no function, in place of a call.
+fn not_a_function(this: Value, arguments: Items<Value>) -> Step
     ensures { result ≡ Step.Go (Control.Do (Action.Throw Complaint.NotAFunction)) }
 {
+    drop(this);
+    drop(arguments);
     Step::Go(Control::Do(Action::Throw(Complaint::NotAFunction)))
 }
 
@@ -279,10 +296,10 @@ fn hand_object(
             let function = *function;
             hand_built_in(alloc, code, state, callee, function, this, arguments)
         }
-        ObjectKind::Plain => Ok(not_a_function()),
-        ObjectKind::Array => Ok(not_a_function()),
-        ObjectKind::Error => Ok(not_a_function()),
-        ObjectKind::RegExp => Ok(not_a_function()),
+        ObjectKind::Plain => Ok(not_a_function(this, arguments)),
+        ObjectKind::Array => Ok(not_a_function(this, arguments)),
+        ObjectKind::Error => Ok(not_a_function(this, arguments)),
+        ObjectKind::RegExp => Ok(not_a_function(this, arguments)),
     }
 }
 
@@ -315,6 +332,9 @@ fn hand_built_in(
         false,
         &this,
         arguments.as_slice(),
-    )?;
+    );
+    drop(this);
+    drop(arguments);
+    let native = native?;
     answer_directly(alloc, code, state, callee, native)
 }

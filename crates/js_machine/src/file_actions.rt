@@ -23,6 +23,7 @@ ghost use Rattle.js_machine.specs.private.State.{store_in, Becomes};
 ghost use Rattle.js_machine.specs.private.Weight.{Weights, control_weight};
 
 use crate::data::{Action, Control, Frame, Step, Task};
+use crate::function_actions::define_named;
 use crate::scopes::{enter_body, make_scope};
 use crate::state::{CachedFile, RequiringFile, State};
 use items::{Items, Memory, Text};
@@ -111,8 +112,14 @@ fn make_objects(alloc: Global, heap: &mut Heap) -> Result<FileObjects, Memory>
         enumerable: true,
         writable: true,
     };
-    let key = ascii(alloc, b"exports")?;
-    heap.define(module, &key, Value::Object(exports), flags)?;
+    define_named(
+        alloc,
+        heap,
+        module,
+        b"exports",
+        Value::Object(exports),
+        flags,
+    )?;
     let require = make_require(alloc, heap)?;
     Ok(FileObjects {
         exports,
@@ -133,16 +140,10 @@ fn make_require(alloc: Global, heap: &mut Heap) -> Result<Object, Memory>
         enumerable: false,
         writable: false,
     };
-    let length = ascii(alloc, b"length")?;
-    heap.define(
-        function,
-        &length,
-        Value::Primitive(Primitive::Number(1)),
-        flags,
-    )?;
-    let key = ascii(alloc, b"name")?;
+    let length = Value::Primitive(Primitive::Number(1));
+    define_named(alloc, heap, function, b"length", length, flags)?;
     let name = Value::Primitive(Primitive::Text(ascii(alloc, b"require")?));
-    heap.define(function, &key, name, flags)?;
+    define_named(alloc, heap, function, b"name", name, flags)?;
     heap.freeze(function);
     Ok(function)
 }

@@ -1,12 +1,13 @@
 // Functions and objects are made, and functions are entered.
 
 ghost use Rattle.std.specs.Prelude.{◌≡◌, ◌<◌, ◌∷◌, ◌++◌, [], IfOk, OnOk, Some, false, map};
-ghost use Rattle.js_value.specs.Objects.{next_object};
+ghost use Rattle.js_value.specs.Objects.{define, next_object};
 ghost use Rattle.js_value.specs.Environments.{next_environment};
 ghost use Rattle.js_value.specs.Functions.{closed};
 ghost use Rattle.js_value.specs.Host.{error_made, error_of as error_told, message_of as message_told};
 ghost use Rattle.js_heap.specs.Environment.{plain_binding};
 ghost use Rattle.js_heap.specs.Heap.{heap_of};
+ghost use Rattle.js_heap.specs.Object.{property_with};
 ghost use Rattle.js_code.specs.Code.{reader};
 ghost use Rattle.js_code.specs.Part.{as_code};
 ghost use Rattle.js_meaning.specs.Files.{this_bound};
@@ -15,7 +16,7 @@ ghost use Rattle.js_machine.specs.private.Config.{form_code, is_ordinary, this_o
 
 use crate::names::Words;
 use crate::parts::Form;
-use crate::scopes::make_scope;
+use crate::scopes::{make_scope, put_binding};
 use items::{Items, Memory};
 use js_code::{BodyScope, Code, Node};
 use js_heap::{Binding, Env, Flags, Heap, ObjectKind};
@@ -133,11 +134,7 @@ fn bound_this(
     ensures { IfOk result (λ names. map plain_binding names ≡ this_bound this) }
 {
     let mut names = Items::from_vec(Vec::with_capacity(alloc, more.saturating_add(1))?);
-    names.push(Binding {
-        name: words.this().copy()?,
-        value: Some(this),
-        constant: true,
-    })?;
+    put_binding(&mut names, words.this(), Some(this), true)?;
     Ok(names)
 }
 
@@ -159,13 +156,29 @@ fn put_names(more: &[SharedName], names: &mut Items<Binding>) -> Result<(), Memo
     ensures { OnOk result (map plain_binding names.new ≡ map plain_binding names.old ++ map (uninitialized false) more.now) }
 {
     for name in more {
-        names.push(Binding {
-            name: name.copy()?,
-            value: None,
-            constant: false,
-        })?;
+        put_binding(names, name, None, false)?;
     }
     Ok(())
+}
+
+/// Puts a property with this name into an object.
+pub fn define_named(
+    alloc: Global,
+    heap: &mut Heap,
+    object: Object,
+    name: &[u8],
+    value: Value,
+    flags: Flags,
+) -> Result<(), Memory>
+    ensures { OnOk result (heap_of heap.new ≡ define object.index (property_with name.now value flags) (heap_of heap.old)) }
+{
+    match ascii(alloc, name) {
+        Ok(key) => heap.define(object, &key, value, flags),
+        Err(failed) => {
+            drop(value);
+            Err(failed)
+        }
+    }
 }
 
 /// Makes an error with this message.
@@ -179,18 +192,13 @@ pub fn make_error(
     ensures made { OnOk result (heap_of heap.new ≡ error_made kind (Some message) (heap_of heap.old)) }
     ensures object { IfOk result (λ object. object.index ≡ next_object (heap_of heap.old)) }
 {
-    let key = ascii(alloc, b"message")?;
     let object = heap.object(ObjectKind::Error, Some(error_prototype(kind)))?;
     let flags = Flags {
         enumerable: false,
         writable: true,
     };
-    heap.define(
-        object,
-        &key,
-        Value::Primitive(Primitive::Text(message)),
-        flags,
-    )?;
+    let value = Value::Primitive(Primitive::Text(message));
+    define_named(alloc, heap, object, b"message", value, flags)?;
     Ok(object)
 }
 

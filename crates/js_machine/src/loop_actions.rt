@@ -32,8 +32,14 @@ pub fn go_through(
 {
     match take_next(alloc, heap, rest.into_inner())? {
         Some((value, rest)) => {
-            let rest = Boxed::new(alloc, rest)?;
-            Ok(Control::Begin(Task::Take { round, value, rest }))
+            match Boxed::new(alloc, rest) {
+                Ok(rest) => Ok(Control::Begin(Task::Take { round, value, rest })),
+                Err(failed) => {
+                    drop(round);
+                    drop(value);
+                    Err(failed)
+                }
+            }
         }
         None => {
             drop(round);

@@ -132,7 +132,10 @@ pub fn begin_take(
                 next: Referring::Take { value, round, rest },
             }))
         }
-        _ => Ok(Control::Do(Action::Throw(Complaint::NotAssignable))),
+        _ => {
+            drop(value);
+            Ok(Control::Do(Action::Throw(Complaint::NotAssignable)))
+        }
     }
 }
 

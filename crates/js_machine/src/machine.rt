@@ -154,8 +154,9 @@ impl Machine {
             control,
             steps,
         )?;
-        let end = end_of(self.alloc, &self.state, &rest)?;
+        let end = end_of(self.alloc, &self.state, &rest);
         put(&mut self.control, rest_control(rest));
+        let end = end?;
         self.lost = false;
         Ok(end)
     }

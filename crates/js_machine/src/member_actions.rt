@@ -53,7 +53,11 @@ pub fn get(
             let units = units_at(alloc, code, words, name)?;
             get_by_name(heap, base, &units)
         }
-        MemberKey::Value(key) => get_by_value(alloc, heap, base, &key),
+        MemberKey::Value(key) => {
+            let control = get_by_value(alloc, heap, base, &key);
+            drop(key);
+            control
+        }
     }
 }
 
@@ -111,7 +115,10 @@ pub fn put(
     let given = value.copy()?;
     match put_member(alloc, heap, base, key, value) {
         Ok(()) => Ok(Control::Give(Completion::Normal(given))),
-        Err(halt) => halted(halt),
+        Err(halt) => {
+            drop(given);
+            halted(halt)
+        }
     }
 }
 
@@ -131,8 +138,17 @@ pub fn put_by_key(
         ≡ M.unless_halted (members.put_member base.now (key_in code.now.nodes key) value (heap_of heap.old)).halt (M.give value)) }
     ensures less { IfOk result (λ control. (w : Weights) → control_weight w control < 2) }
 {
-    let key = key_value(alloc, code, words, key)?;
-    put(alloc, heap, base, &key, value)
+    match key_value(alloc, code, words, key) {
+        Ok(key) => {
+            let control = put(alloc, heap, base, &key, value);
+            drop(key);
+            control
+        }
+        Err(failed) => {
+            drop(value);
+            Err(failed)
+        }
+    }
 }
 
 /// A member is deleted.

@@ -44,9 +44,18 @@ pub fn write(heap: &mut Heap, name: &SharedName, env: Env, value: Value) -> Resu
     let given = value.copy()?;
     match heap.assign_name(env, name, value) {
         Some(Assign::Done) => Ok(Control::Give(Completion::Normal(given))),
-        Some(Assign::Dead) => Ok(Control::Do(Action::Throw(Complaint::NotInitialised))),
-        Some(Assign::Constant) => Ok(Control::Do(Action::Throw(Complaint::NotAssignable))),
-        None => Ok(Control::Do(Action::Throw(Complaint::NotDefined))),
+        Some(Assign::Dead) => {
+            drop(given);
+            Ok(Control::Do(Action::Throw(Complaint::NotInitialised)))
+        }
+        Some(Assign::Constant) => {
+            drop(given);
+            Ok(Control::Do(Action::Throw(Complaint::NotAssignable)))
+        }
+        None => {
+            drop(given);
+            Ok(Control::Do(Action::Throw(Complaint::NotDefined)))
+        }
     }
 }
 
@@ -66,7 +75,10 @@ pub fn initialize(
     let given = value.copy()?;
     match heap.init_name(env, name, value) {
         Some(_) => Ok(Control::Give(Completion::Normal(given))),
-        None => Ok(Control::Do(Action::Throw(Complaint::NotDefined))),
+        None => {
+            drop(given);
+            Ok(Control::Do(Action::Throw(Complaint::NotDefined)))
+        }
     }
 }
 

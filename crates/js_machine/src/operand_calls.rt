@@ -43,13 +43,32 @@ pub fn call_of_operands(
     let Some(reference) = refer(alloc, code, words, heap, callee, env)? else {
         return Ok(None);
     };
-    let Some(callee) = get(alloc, code, words, heap, &reference, env)? else {
-        return Ok(None);
-    };
-    let Some(values) = operands(alloc, code, words, heap, arguments, env)? else {
-        return Ok(None);
-    };
-    Ok(Some(call(heap, callee, this_of(reference), values)))
+    match get(alloc, code, words, heap, &reference, env) {
+        Ok(Some(callee)) => {
+            let this = this_of(reference);
+            match operands(alloc, code, words, heap, arguments, env) {
+                Ok(Some(values)) => Ok(Some(call(heap, callee, this, values))),
+                Ok(None) => {
+                    drop(callee);
+                    drop(this);
+                    Ok(None)
+                }
+                Err(failed) => {
+                    drop(callee);
+                    drop(this);
+                    Err(failed)
+                }
+            }
+        }
+        Ok(None) => {
+            drop(reference);
+            Ok(None)
+        }
+        Err(failed) => {
+            drop(reference);
+            Err(failed)
+        }
+    }
 }
 
 // The `this` of a call of a reference: the object of a member (13.3.6.2, 1).

@@ -138,7 +138,10 @@ pub fn update(
 {
     match to_number(value) {
         Ok(old) => update_number(frames, prefix, operator, reference, env, old),
-        Err(kind) => Ok(Control::Refuse(kind)),
+        Err(kind) => {
+            drop(reference);
+            Ok(Control::Refuse(kind))
+        }
     }
 }
 
@@ -164,7 +167,10 @@ fn update_number(
                 put(reference, env, Value::Primitive(Primitive::Number(new))),
             )
         }
-        Err(kind) => Ok(Control::Refuse(kind)),
+        Err(kind) => {
+            drop(reference);
+            Ok(Control::Refuse(kind))
+        }
     }
 }
 

@@ -103,8 +103,15 @@ pub fn go_on(
             right,
             env,
         } => Ok(logical(operator, right, env, value)),
-        Pending::Conditional { holds, fails, env } => Ok(choose(holds, fails, env, &value)),
-        Pending::Comma { right, env } => Ok(Control::Begin(Task::Evaluate { place: right, env })),
+        Pending::Conditional { holds, fails, env } => {
+            let control = choose(holds, fails, env, &value);
+            drop(value);
+            Ok(control)
+        }
+        Pending::Comma { right, env } => {
+            drop(value);
+            Ok(Control::Begin(Task::Evaluate { place: right, env }))
+        }
         Pending::ReferNamed { name, env, next } => Ok(Control::Begin(Task::Referred {
             next,
             env,
@@ -165,68 +172,107 @@ pub fn go_on(
             operator,
             reference,
             env,
-        } => update(frames, prefix, operator, reference, env, &value),
-        Pending::Instead(completion) => Ok(Control::Give(completion)),
+        } => {
+            let control = update(frames, prefix, operator, reference, env, &value);
+            drop(value);
+            control
+        }
+        Pending::Instead(completion) => {
+            drop(value);
+            Ok(Control::Give(completion))
+        }
         Pending::TemplatePart {
             part,
             rest,
             env,
             units,
-        } => template_text(alloc, part, rest, env, units, &value),
-        Pending::Property { rest, env, object } => Ok(Control::Begin(Task::DefineAll {
-            properties: rest,
-            env,
-            object,
-        })),
+        } => {
+            let control = template_text(alloc, part, rest, env, units, &value);
+            drop(value);
+            control
+        }
+        Pending::Property { rest, env, object } => {
+            drop(value);
+            Ok(Control::Begin(Task::DefineAll {
+                properties: rest,
+                env,
+                object,
+            }))
+        }
         Pending::As { object, key } => { Ok(Control::Do(Action::Define { object, key, value })) }
-        Pending::Key { next, env } => key_text(alloc, next, env, &value),
+        Pending::Key { next, env } => {
+            let control = key_text(alloc, next, env, &value);
+            drop(value);
+            control
+        }
         Pending::BindTo { kind, name, env } => Ok(bind_to(kind, name, env, value)),
-        Pending::Declarator { kind, rest, env } => Ok(Control::Begin(Task::Declare {
-            kind,
-            declarators: rest,
-            env,
-        })),
-        Pending::Discard => Ok(undefined()),
-        Pending::Statement { rest, env } => Ok(Control::Begin(Task::ExecuteAll {
-            place: rest,
-            env,
-        })),
-        Pending::Choose { holds, fails, env } => Ok(choose_statement(
-            alloc, holds, fails, env, &value,
-        )),
+        Pending::Declarator { kind, rest, env } => {
+            drop(value);
+            Ok(Control::Begin(Task::Declare {
+                kind,
+                declarators: rest,
+                env,
+            }))
+        }
+        Pending::Discard => {
+            drop(value);
+            Ok(undefined())
+        }
+        Pending::Statement { rest, env } => {
+            drop(value);
+            Ok(Control::Begin(Task::ExecuteAll { place: rest, env }))
+        }
+        Pending::Choose { holds, fails, env } => {
+            let control = choose_statement(alloc, holds, fails, env, &value);
+            drop(value);
+            Ok(control)
+        }
         Pending::Turn {
             statement,
             labels,
             env,
-        } => Ok(turn(statement, labels, env, &value)),
+        } => {
+            let control = turn(statement, labels, env, &value);
+            drop(value);
+            Ok(control)
+        }
         Pending::Started {
             init,
             test,
             statement,
             labels,
             env,
-        } => Ok(Control::Do(Action::Anew {
-            init,
-            next: Scoped::Turn {
-                test,
-                statement,
-                labels,
-            },
-            env,
-        })),
+        } => {
+            drop(value);
+            Ok(Control::Do(Action::Anew {
+                init,
+                next: Scoped::Turn {
+                    test,
+                    statement,
+                    labels,
+                },
+                env,
+            }))
+        }
         Pending::Updated {
             test,
             statement,
             labels,
             env,
-        } => Ok(Control::Begin(Task::Test {
-            test,
-            statement,
-            labels,
-            env,
-        })),
+        } => {
+            drop(value);
+            Ok(Control::Begin(Task::Test {
+                test,
+                statement,
+                labels,
+                env,
+            }))
+        }
         Pending::Subject { keys, round } => Ok(subject(keys, round, value)),
-        Pending::Taken { round, inner, rest } => Ok(take_pass(round, inner, rest)),
+        Pending::Taken { round, inner, rest } => {
+            drop(value);
+            Ok(take_pass(round, inner, rest))
+        }
         Pending::Switch { cases, env } => {
             Ok(Control::Do(Action::EnterSwitch { cases, value, env }))
         }
@@ -236,8 +282,15 @@ pub fn go_on(
             all,
             value: sought,
             env,
-        } => tested(frames, statements, rest, all, sought, env, &value),
-        Pending::Fallen { rest, env } => Ok(Control::Begin(Task::Fall { cases: rest, env })),
+        } => {
+            let control = tested(frames, statements, rest, all, sought, env, &value);
+            drop(value);
+            control
+        }
+        Pending::Fallen { rest, env } => {
+            drop(value);
+            Ok(Control::Begin(Task::Fall { cases: rest, env }))
+        }
         Pending::Return => Ok(Control::Give(Completion::Return(value))),
         Pending::Throw => Ok(Control::Give(Completion::Throw(value))),
         Pending::OwnName { name, env } => {
@@ -268,7 +321,13 @@ pub fn go_on(
             arguments,
             next,
             env,
-        } => Ok(next_param(rest, arguments, next, env)),
-        Pending::Bound { function, env } => { Ok(Control::Do(Action::EnterBody { function, env })) }
+        } => {
+            drop(value);
+            Ok(next_param(rest, arguments, next, env))
+        }
+        Pending::Bound { function, env } => {
+            drop(value);
+            Ok(Control::Do(Action::EnterBody { function, env }))
+        }
     }
 }

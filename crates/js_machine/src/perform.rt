@@ -12,7 +12,7 @@ ghost use Rattle.js_meaning.specs.Scopes.{shape_of};
 ghost use Rattle.js_value.specs.State.{Store};
 ghost use Rattle.js_code.specs.Program.{IsCodeOf};
 ghost use Rattle.js_meaning.specs.Program.{Sources};
-ghost use Rattle.js_machine.specs.private.Config.{view_of, action_comp, control_comp, form_code, title_in};
+ghost use Rattle.js_machine.specs.private.Config.{View, view_of, action_comp, control_comp, form_code, title_in};
 ghost use Rattle.js_machine.specs.private.State.{store_in, Becomes, Turns};
 ghost use Rattle.js_machine.specs.private.Weight.{Weights, place_weight, action_weight, control_weight};
 
@@ -61,9 +61,15 @@ pub fn perform(
         Action::Initialize { name, env, value } => {
             initialize(&mut state.heap, name_at(code, words, name), env, value)
         }
-        Action::GetMember { base, key } => get(alloc, code, words, &state.heap, &base, key),
+        Action::GetMember { base, key } => {
+            let control = get(alloc, code, words, &state.heap, &base, key);
+            drop(base);
+            control
+        }
         Action::PutMember { base, key, value } => {
-            put_by_key(alloc, code, words, &mut state.heap, &base, key, value)
+            let control = put_by_key(alloc, code, words, &mut state.heap, &base, key, value);
+            drop(base);
+            control
         }
         Action::Delete(reference) => delete_reference(
             alloc,
@@ -76,9 +82,16 @@ pub fn perform(
             operator,
             left,
             right,
-        } => operate(alloc, &state.heap, operator, &left, &right),
+        } => {
+            let control = operate(alloc, &state.heap, operator, &left, &right);
+            drop(left);
+            drop(right);
+            control
+        }
         Action::OperateUnary { operator, value } => {
-            operate_unary(alloc, &state.heap, operator, &value)
+            let control = operate_unary(alloc, &state.heap, operator, &value);
+            drop(value);
+            control
         }
         Action::TypeOfName { name, env } => {
             type_of_name(alloc, &state.heap, name_at(code, words, name), env)
@@ -99,23 +112,17 @@ pub fn perform(
             title,
             env,
         ),
-        Action::MakeRegExp => {
-            let parent = Some(object_at(Place::RegExpPrototype));
-            Ok(give_object(state.heap.object(ObjectKind::RegExp, parent)?))
-        }
-        Action::MakeObject { properties, env } => {
-            let parent = Some(object_at(Place::ObjectPrototype));
-            let object = state.heap.object(ObjectKind::Plain, parent)?;
-            Ok(Control::Begin(Task::DefineAll {
-                properties,
-                env,
-                object,
-            }))
-        }
-        Action::Define { object, key, value } => {
-            let key = text_of(alloc, code, words, key)?;
-            define(&mut state.heap, object, &key, value)
-        }
+        Action::MakeRegExp => make_reg_exp(&mut state.heap),
+        Action::MakeObject { properties, env } => make_object(&mut state.heap, properties, env),
+        Action::Define { object, key, value } => define_titled(
+            alloc,
+            code,
+            words,
+            &mut state.heap,
+            object,
+            key,
+            value,
+        ),
         Action::Gathered { gathering, values } => gathered(
             code,
             &mut state.heap,
@@ -151,12 +158,11 @@ pub fn perform(
         Action::GoThroughKeys { round, value } => {
             go_through_keys(alloc, &state.heap, round, value)
         }
-        Action::GoThroughItems { round, value } => go_through_items(
-            alloc,
-            &state.heap,
-            round,
-            &value,
-        ),
+        Action::GoThroughItems { round, value } => {
+            let control = go_through_items(alloc, &state.heap, round, &value);
+            drop(value);
+            control
+        }
         Action::StartCall {
             this,
             function,
@@ -190,6 +196,47 @@ fn give_object(object: Object) -> Control
     ensures { result ≡ Control.Give (Completion.Normal (Value.Object object)) }
 {
     Control::Give(Completion::Normal(Value::Object(object)))
+}
+
+// Makes a regular expression.
+fn make_reg_exp(heap: &mut Heap) -> Result<Control, Memory>
+    ensures means { IfOk result (λ control. (t : View) → Turns (action_comp t Action.MakeRegExp) heap.old (control_comp t control) heap.new) }
+    ensures less { IfOk result (λ control. (w : Weights) → control_weight w control < 2) }
+{
+    let parent = Some(object_at(Place::RegExpPrototype));
+    Ok(give_object(heap.object(ObjectKind::RegExp, parent)?))
+}
+
+// Makes an object, for its properties.
+fn make_object(heap: &mut Heap, properties: usize, env: Env) -> Result<Control, Memory>
+    ensures means { IfOk result (λ control. (t : View) → Turns (action_comp t (Action.MakeObject properties env)) heap.old (control_comp t control) heap.new) }
+    ensures less { IfOk result (λ control. (w : Weights) → control_weight w control ≡ w properties) }
+{
+    let parent = Some(object_at(Place::ObjectPrototype));
+    let object = heap.object(ObjectKind::Plain, parent)?;
+    Ok(Control::Begin(Task::DefineAll {
+        properties,
+        env,
+        object,
+    }))
+}
+
+// Puts a property with this key into an object.
+fn define_titled(
+    alloc: Global,
+    code: &Code,
+    words: &Words,
+    heap: &mut Heap,
+    object: Object,
+    key: Title,
+    value: Value,
+) -> Result<Control, Memory>
+    ensures means { IfOk result (λ control. (p : Sources) →
+        Turns (action_comp (view_of p code.now.nodes) (Action.Define object key value)) heap.old (control_comp (view_of p code.now.nodes) control) heap.new) }
+    ensures less { IfOk result (λ control. (w : Weights) → control_weight w control < 2) }
+{
+    let key = text_of(alloc, code, words, key)?;
+    define(heap, object, &key, value)
 }
 
 // Makes the function with its code at a place, of this name.
@@ -237,10 +284,18 @@ fn delete_reference(
         Reference::Name(_) => Ok(Control::Give(Completion::Normal(Value::Primitive(
             Primitive::Boolean(false),
         )))),
-        Reference::Member { base, key } => {
-            let key = key_value(alloc, code, words, key)?;
-            delete(alloc, heap, &base, &key)
-        }
+        Reference::Member { base, key } => match key_value(alloc, code, words, key) {
+            Ok(key) => {
+                let control = delete(alloc, heap, &base, &key);
+                drop(base);
+                drop(key);
+                control
+            }
+            Err(failed) => {
+                drop(base);
+                Err(failed)
+            }
+        },
     }
 }
 

@@ -128,17 +128,22 @@ pub fn begin_referred(
     match next {
         Referring::Call { arguments } => call_reference(frames, arguments, env, reference),
         Referring::Update { prefix, operator } => {
-            let same = copy_reference(&reference)?;
-            with_frame(
-                frames,
-                Frame::Value(Pending::Update {
-                    prefix,
-                    operator,
-                    reference: same,
-                    env,
-                }),
-                get(reference, env),
-            )
+            match copy_reference(&reference) {
+                Ok(same) => with_frame(
+                    frames,
+                    Frame::Value(Pending::Update {
+                        prefix,
+                        operator,
+                        reference: same,
+                        env,
+                    }),
+                    get(reference, env),
+                ),
+                Err(failed) => {
+                    drop(reference);
+                    Err(failed)
+                }
+            }
         }
         Referring::Delete => Ok(Control::Do(Action::Delete(reference))),
         Referring::Assign { operator, value } => assign(frames, operator, value, env, reference),
@@ -175,16 +180,22 @@ fn call_reference(
             Control::Do(Action::Read { name, env }),
         ),
         Reference::Member { base, key } => {
-            let this = base.copy()?;
-            with_frame(
-                frames,
-                Frame::Value(Pending::Callee {
-                    arguments,
-                    env,
-                    this,
-                }),
-                Control::Do(Action::GetMember { base, key }),
-            )
+            match base.copy() {
+                Ok(this) => with_frame(
+                    frames,
+                    Frame::Value(Pending::Callee {
+                        arguments,
+                        env,
+                        this,
+                    }),
+                    Control::Do(Action::GetMember { base, key }),
+                ),
+                Err(failed) => {
+                    drop(base);
+                    drop(key);
+                    Err(failed)
+                }
+            }
         }
     }
 }
@@ -203,17 +214,22 @@ fn assign(
     match operator {
         None => assign_plainly(frames, value, env, reference),
         Some(operator) => {
-            let same = copy_reference(&reference)?;
-            with_frame(
-                frames,
-                Frame::Value(Pending::Old {
-                    operator,
-                    value,
-                    reference: same,
-                    env,
-                }),
-                get(reference, env),
-            )
+            match copy_reference(&reference) {
+                Ok(same) => with_frame(
+                    frames,
+                    Frame::Value(Pending::Old {
+                        operator,
+                        value,
+                        reference: same,
+                        env,
+                    }),
+                    get(reference, env),
+                ),
+                Err(failed) => {
+                    drop(reference);
+                    Err(failed)
+                }
+            }
         }
     }
 }

@@ -184,9 +184,18 @@ fn after_call(completion: Completion) -> Control
     match completion {
         Completion::Return(value) => Control::Give(Completion::Normal(value)),
         Completion::Throw(value) => Control::Give(Completion::Throw(value)),
-        Completion::Normal(_) => undefined(),
-        Completion::Break(_) => undefined(),
-        Completion::Continue(_) => undefined(),
+        Completion::Normal(value) => {
+            drop(value);
+            undefined()
+        }
+        Completion::Break(label) => {
+            drop(label);
+            undefined()
+        }
+        Completion::Continue(label) => {
+            drop(label);
+            undefined()
+        }
     }
 }
 
@@ -198,9 +207,18 @@ fn after_construct(made: Object, completion: Completion) -> Control
     match completion {
         Completion::Return(value) => object_or(made, value),
         Completion::Throw(value) => Control::Give(Completion::Throw(value)),
-        Completion::Normal(_) => object(made),
-        Completion::Break(_) => object(made),
-        Completion::Continue(_) => object(made),
+        Completion::Normal(value) => {
+            drop(value);
+            object(made)
+        }
+        Completion::Break(label) => {
+            drop(label);
+            object(made)
+        }
+        Completion::Continue(label) => {
+            drop(label);
+            object(made)
+        }
     }
 }
 
@@ -218,7 +236,10 @@ fn object_or(made: Object, value: Value) -> Control
 {
     match value {
         Value::Object(returned) => object(returned),
-        Value::Primitive(_) => object(made),
+        Value::Primitive(value) => {
+            drop(value);
+            object(made)
+        }
     }
 }
 
@@ -229,9 +250,21 @@ fn after_start(file: usize, completion: Completion) -> Control
 {
     match completion {
         Completion::Throw(thrown) => { Control::Do(Action::LeaveCache { file, thrown }) }
-        Completion::Normal(_) => Control::Do(Action::Exports { file }),
-        Completion::Break(_) => Control::Do(Action::Exports { file }),
-        Completion::Continue(_) => Control::Do(Action::Exports { file }),
-        Completion::Return(_) => Control::Do(Action::Exports { file }),
+        Completion::Normal(value) => {
+            drop(value);
+            Control::Do(Action::Exports { file })
+        }
+        Completion::Break(label) => {
+            drop(label);
+            Control::Do(Action::Exports { file })
+        }
+        Completion::Continue(label) => {
+            drop(label);
+            Control::Do(Action::Exports { file })
+        }
+        Completion::Return(value) => {
+            drop(value);
+            Control::Do(Action::Exports { file })
+        }
     }
 }

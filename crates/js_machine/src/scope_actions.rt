@@ -8,7 +8,7 @@ ghost use Rattle.js_meaning.specs.Program.{Sources};
 ghost use Rattle.js_meaning.specs.Meaning as M;
 ghost use Rattle.js_meaning.specs.Scopes as S;
 ghost use Rattle.js_meaning.specs.Scopes.{init_scope, is_fresh as is_anew, lexical_names, target_scope, uninitialized};
-ghost use Rattle.js_machine.specs.private.Config.{View, view_of, action_comp, block_comp, code_of, control_comp, scope_of};
+ghost use Rattle.js_machine.specs.private.Config.{View, view_of, action_comp, block_comp, code_of, control_comp, scope_of, scoped_comp};
 ghost use Rattle.js_machine.specs.declared.data.Action.TheVariants as action;
 ghost use Rattle.js_machine.specs.declared.parts.Form.TheVariants as form;
 ghost use Rattle.js_machine.specs.private.State.{Turns};
@@ -17,7 +17,7 @@ ghost use Rattle.js_machine.specs.private.Weight.{Weights, control_weight, place
 use crate::data::{Control, Task};
 use crate::names::{Words, name_at};
 use crate::parts::Scoped;
-use crate::scopes::{bindings, enter_scope, make_name, make_scope};
+use crate::scopes::{bindings, enter_scope, make_name, make_scope, put_binding};
 use items::{Items, Memory};
 use js_code::{Code, Node};
 use js_heap::{Binding, Env, Heap};
@@ -105,13 +105,33 @@ pub fn enter_loop(
         Turns (action_comp (view_of p code.now.nodes) (action.EnterLoop next env)) heap.old (control_comp (view_of p code.now.nodes) control) heap.new) }
     ensures less { IfOk result (λ control. (w : Weights) → control_weight w control ≡ scoped_weight w next) }
 {
-    let names = loop_names(alloc, code, words, &next)?;
+    match loop_scope(alloc, code, words, heap, &next, env) {
+        Ok(inner) => Ok(Control::Begin(Task::Within { next, env: inner })),
+        Err(failed) => {
+            drop(next);
+            Err(failed)
+        }
+    }
+}
+
+// The environment of a loop's scope: where it declares nothing, none is made.
+fn loop_scope(
+    alloc: Global,
+    code: &Code,
+    words: &Words,
+    heap: &mut Heap,
+    next: &Scoped,
+    env: Env,
+) -> Result<Env, Memory>
+    ensures { IfOk result (λ inner. (p : Sources) →
+        Turns (action_comp (view_of p code.now.nodes) (action.EnterLoop next.now env)) heap.old (scoped_comp (view_of p code.now.nodes) next.now inner.index) heap.new) }
+{
+    let names = loop_names(alloc, code, words, next)?;
     if names.is_empty() {
         drop(names);
-        return Ok(Control::Begin(Task::Within { next, env }));
+        return Ok(env);
     }
-    let inner = make_scope(heap, names, env)?;
-    Ok(Control::Begin(Task::Within { next, env: inner }))
+    make_scope(heap, names, env)
 }
 
 // The names that the scope of a loop declares.
@@ -180,11 +200,7 @@ fn one_name(alloc: Global, name: &SharedName, constant: bool) -> Result<Items<Bi
     ensures { IfOk result (λ names. map plain_binding names ≡ uninitialized constant name.now ∷ []) }
 {
     let mut names = Items::from_vec(Vec::with_capacity(alloc, 1)?);
-    names.push(Binding {
-        name: name.copy()?,
-        value: None,
-        constant,
-    })?;
+    put_binding(&mut names, name, None, constant)?;
     Ok(names)
 }
 
@@ -202,8 +218,13 @@ pub fn make_anew(
     ensures less { IfOk result (λ control. (w : Weights) → control_weight w control ≡ scoped_weight w next) }
 {
     if is_fresh(code, init) {
-        let inner = heap.copy_env(env)?;
-        return Ok(Control::Begin(Task::Within { next, env: inner }));
+        return match heap.copy_env(env) {
+            Ok(inner) => Ok(Control::Begin(Task::Within { next, env: inner })),
+            Err(failed) => {
+                drop(next);
+                Err(failed)
+            }
+        };
     }
     Ok(Control::Begin(Task::Within { next, env }))
 }

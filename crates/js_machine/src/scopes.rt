@@ -43,17 +43,35 @@ pub fn make_scope(heap: &mut Heap, names: Items<Binding>, env: Env) -> Result<En
     heap.scope(Some(env), names)
 }
 
+/// Puts a name with its first value at the end.
+pub fn put_binding(
+    names: &mut Items<Binding>,
+    name: &SharedName,
+    value: Option<Value>,
+    constant: bool,
+) -> Result<(), Memory>
+    ensures { OnOk result (names.new ≡ names.old ++ record { name = name.now; value = value; constant = constant } ∷ []) }
+{
+    match name.copy() {
+        Ok(name) => names.push(Binding {
+            name,
+            value,
+            constant,
+        }),
+        Err(failed) => {
+            drop(value);
+            Err(failed)
+        }
+    }
+}
+
 /// Names as they are made.
 pub fn bindings(alloc: Global, names: &[NewName]) -> Result<Items<Binding>, Memory>
     ensures { IfOk result (λ made. map plain_binding made ≡ names.now) }
 {
     let mut made = Items::from_vec(Vec::with_capacity(alloc, names.len())?);
     for name in names {
-        made.push(Binding {
-            name: name.name().copy()?,
-            value: name.value(),
-            constant: name.is_constant(),
-        })?;
+        put_binding(&mut made, name.name(), name.value(), name.is_constant())?;
     }
     Ok(made)
 }
@@ -96,11 +114,7 @@ pub fn make_name(
     ensures environment { IfOk result (λ inner. inner.index ≡ next_environment (heap_of heap.old)) }
 {
     let mut names = Items::new(alloc);
-    names.push(Binding {
-        name: name.copy()?,
-        value,
-        constant,
-    })?;
+    put_binding(&mut names, name, value, constant)?;
     make_scope(heap, names, env)
 }
 
@@ -183,11 +197,8 @@ fn put_variables(
         ++ map (λ name. variable_of (first_value params.now env.index (heap_of heap.now) name) name) variables.now) }
 {
     for name in variables {
-        names.push(Binding {
-            name: name.copy()?,
-            value: Some(first_value_of(heap, params, name, env)?),
-            constant: false,
-        })?;
+        let value = first_value_of(heap, params, name, env)?;
+        put_binding(names, name, Some(value), false)?;
     }
     Ok(())
 }
@@ -197,11 +208,7 @@ fn put_lexical(more: &[NewName], names: &mut Items<Binding>) -> Result<(), Memor
     ensures { OnOk result (map plain_binding names.new ≡ map plain_binding names.old ++ more.now) }
 {
     for name in more {
-        names.push(Binding {
-            name: name.name().copy()?,
-            value: name.value(),
-            constant: name.is_constant(),
-        })?;
+        put_binding(names, name.name(), name.value(), name.is_constant())?;
     }
     Ok(())
 }

@@ -51,9 +51,17 @@ fn shown_error(alloc: Global, heap: &Heap, object: Object) -> Result<Str, Memory
     ensures { IfOk result (λ units. units ≡ titled (spec.shown_part (heap_of heap.now) (get (heap_of heap.now) object.index (codes "name")))
         (spec.shown_part (heap_of heap.now) (get (heap_of heap.now) object.index (codes "message")))) }
 {
-    let name = shown_part(alloc, heap, heap.get(object, &ascii(alloc, b"name")?))?;
-    let message = shown_part(alloc, heap, heap.get(object, &ascii(alloc, b"message")?))?;
+    let name = shown_named(alloc, heap, object, b"name")?;
+    let message = shown_named(alloc, heap, object, b"message")?;
     title(alloc, &name, &message)
+}
+
+// What is shown of the part of an error with this name.
+fn shown_named(alloc: Global, heap: &Heap, object: Object, name: &[u8]) -> Result<Str, Memory>
+    ensures { IfOk result (λ units. units ≡ spec.shown_part (heap_of heap.now) (get (heap_of heap.now) object.index name.now)) }
+{
+    let key = ascii(alloc, name)?;
+    shown_part(alloc, heap, heap.get(object, &key))
 }
 
 // What is shown of a part of an error.

@@ -392,16 +392,22 @@ pub fn begin_catch(node: &Node, place: usize, value: Value, env: Env) -> Control
     ensures less { (w : Weights) → control_weight w result < node_weight w node.now }
 {
     match node {
-        Node::Catch { statements } => Control::Do(Action::EnterBlock {
-            block: *statements,
-            env,
-        }),
+        Node::Catch { statements } => {
+            drop(value);
+            Control::Do(Action::EnterBlock {
+                block: *statements,
+                env,
+            })
+        }
         Node::CatchName { statements, .. } => Control::Do(Action::Caught {
             name: place,
             value,
             block: *statements,
             env,
         }),
-        _ => undefined(),
+        _ => {
+            drop(value);
+            undefined()
+        }
     }
 }

@@ -10,32 +10,32 @@ use Rattle.js_machine.proofs.advance.advance.Goals as goal
 pub transitions-init : goal.transitions-init
 transitions-init c = λ p carries. leads_none (view_of p c.args.code.now.nodes) (here c.args.frames.now.items c.args.control c.args.state.now)
 
+pub transitions-preserved-in-Ok-Some : goal.transitions-preserved-in-Ok-Some
+transitions-preserved-in-Ok-Some c = λ p carries. leads_on (view_of p c.args.code.now.nodes) _ _ _ (c.transitions.invariant p carries)
+    (moves_at_once (view_of p c.args.code.now.nodes) c.transitions.frames.items c.transitions.at c.in-Ok-Some.control c.in-Begin.task c.transitions.state c.at_once.new.heap
+    c.in-Begin.is (some_is _ _ _ c.in-Ok-Some.field-0-is c.in-Ok-Some.ensures.turns p))
+
+pub transitions-smaller-in-Ok-Some : goal.transitions-smaller-in-Ok-Some
+transitions-smaller-in-Ok-Some c = lessens_at_once c.transitions.frames.items c.transitions.at c.in-Ok-Some.control c.in-Begin.task c.transitions.state c.transitions.state
+    c.in-Begin.is (some_is _ _ _ c.in-Ok-Some.field-0-is c.in-Ok-Some.ensures.less)
+
+pub transitions-preserved-in-Ok-None : goal.transitions-preserved-in-Ok-None
+transitions-preserved-in-Ok-None c = λ p carries. leads_on (view_of p c.args.code.now.nodes) _ _ _ (c.transitions.invariant p carries)
+    (begins_after (view_of p c.args.code.now.nodes) c.transitions.frames.items c.begin.new.frames.items c.transitions.at c.in_ok-at-in-Ok-None.at c.in-Begin.task c.transitions.state c.at_once.new.heap
+    c.in-Begin.is (c.at_once.ensures.none (c.in-Ok-None.is ∙ ap Ok c.in-Ok-None.field-0-is)) (c.in_ok-at-in-Ok-None.ensures.means p))
+
+pub transitions-smaller-in-Ok-None : goal.transitions-smaller-in-Ok-None
+transitions-smaller-in-Ok-None c = begins_lighter c.transitions.frames.items c.begin.new.frames.items c.transitions.at c.in_ok-at-in-Ok-None.at c.in-Begin.task c.transitions.state c.transitions.state
+    c.in-Begin.is c.in_ok-at-in-Ok-None.ensures.less
+
 pub transitions-preserved-in-Some : goal.transitions-preserved-in-Some
 transitions-preserved-in-Some c = λ p carries. leads_on (view_of p c.args.code.now.nodes) _ _ _ (c.transitions.invariant p carries)
-    (moves_at_once (view_of p c.args.code.now.nodes) c.transitions.frames.items c.transitions.at c.in-Some.control c.in-Begin.task c.transitions.state c.at_once.new.heap
-    c.in-Begin.is (some_is _ _ _ c.in-Some.is c.in_ok-control-in-Begin.ensures.turns p))
+    (resumes (view_of p c.args.code.now.nodes) c.transitions.frames.items c.pop.new.self.items c.resume.new.frames.items c.transitions.at c.in_ok-at-in-Some.at c.in-Some.frame c.in-Give.completion c.transitions.state
+    c.in-Give.is c.in-Some.ensures.items (c.in_ok-at-in-Some.ensures.means (view_of p c.args.code.now.nodes)))
 
 pub transitions-smaller-in-Some : goal.transitions-smaller-in-Some
-transitions-smaller-in-Some c = lessens_at_once c.transitions.frames.items c.transitions.at c.in-Some.control c.in-Begin.task c.transitions.state c.transitions.state
-    c.in-Begin.is (some_is _ _ _ c.in-Some.is c.in_ok-control-in-Begin.ensures.less)
-
-pub transitions-preserved-in-None : goal.transitions-preserved-in-None
-transitions-preserved-in-None c = λ p carries. leads_on (view_of p c.args.code.now.nodes) _ _ _ (c.transitions.invariant p carries)
-    (begins_after (view_of p c.args.code.now.nodes) c.transitions.frames.items c.begin.new.frames.items c.transitions.at c.in_ok-at-in-None.at c.in-Begin.task c.transitions.state c.at_once.new.heap
-    c.in-Begin.is (c.at_once.ensures.none (c.in_ok-control-in-Begin.was ∙ ap Ok c.in-None.is)) (c.in_ok-at-in-None.ensures.means p))
-
-pub transitions-smaller-in-None : goal.transitions-smaller-in-None
-transitions-smaller-in-None c = begins_lighter c.transitions.frames.items c.begin.new.frames.items c.transitions.at c.in_ok-at-in-None.at c.in-Begin.task c.transitions.state c.transitions.state
-    c.in-Begin.is c.in_ok-at-in-None.ensures.less
-
-pub transitions-preserved-in-Some-pop : goal.transitions-preserved-in-Some-pop
-transitions-preserved-in-Some-pop c = λ p carries. leads_on (view_of p c.args.code.now.nodes) _ _ _ (c.transitions.invariant p carries)
-    (resumes (view_of p c.args.code.now.nodes) c.transitions.frames.items c.pop.new.self.items c.resume.new.frames.items c.transitions.at c.in_ok-at-in-Some-pop.at c.in-Some-pop.frame c.in-Give.completion c.transitions.state
-    c.in-Give.is c.in-Some-pop.ensures.items (c.in_ok-at-in-Some-pop.ensures.means (view_of p c.args.code.now.nodes)))
-
-pub transitions-smaller-in-Some-pop : goal.transitions-smaller-in-Some-pop
-transitions-smaller-in-Some-pop c = resumes_lighter c.transitions.frames.items c.pop.new.self.items c.resume.new.frames.items c.transitions.at c.in_ok-at-in-Some-pop.at c.in-Some-pop.frame c.in-Give.completion c.transitions.state c.transitions.state
-    c.in-Give.is c.in-Some-pop.ensures.items (c.in_ok-at-in-Some-pop.ensures.less place_weight)
+transitions-smaller-in-Some c = resumes_lighter c.transitions.frames.items c.pop.new.self.items c.resume.new.frames.items c.transitions.at c.in_ok-at-in-Some.at c.in-Some.frame c.in-Give.completion c.transitions.state c.transitions.state
+    c.in-Give.is c.in-Some.ensures.items (c.in_ok-at-in-Some.ensures.less place_weight)
 
 pub transitions-preserved : goal.transitions-preserved
 transitions-preserved c = λ p carries. leads_on (view_of p c.args.code.now.nodes) _ _ _ (c.transitions.invariant p carries)
@@ -45,8 +45,8 @@ transitions-preserved c = λ p carries. leads_on (view_of p c.args.code.now.node
 pub transitions-smaller : goal.transitions-smaller
 transitions-smaller c = perform_lessens c.transitions.frames.items c.in-Do.action c.transitions.at c.in_ok-at-in-Do.at c.transitions.state c.perform.new.state c.in-Do.is c.in_ok-at-in-Do.ensures.less
 
-pub returns-in-None-pop : goal.returns-in-None-pop
-returns-in-None-pop c = λ p carries.
+pub returns-in-None : goal.returns-in-None
+returns-in-None c = λ p carries.
     let none : c.pop.new.self.items ≡ [] = search rules in
     let same : c.pop.new.self.items ≡ c.transitions.frames.items = search rules in
     rests_at (view_of p c.args.code.now.nodes) (here c.args.frames.now.items c.args.control c.args.state.now) (rest.Completed c.in-Give.completion) c.transitions.at c.transitions.frames.items c.pop.new.self.items c.transitions.state c.transitions.state

@@ -18,8 +18,8 @@ returns-in-Some c = λ p otherwise next.
     (named_refers (view_of p c.args.code.now.nodes) c.args.place c.args.env.index c.args.heap.now c.in-NamedMember.loc otherwise next c.in-NamedMember.object c.in-NamedMember.name c.in-Some.base
     (ap as_expr (c.node.ensures.read ∙ ap (build (reader c.args.code.now.nodes)) c.in-NamedMember.is)) (some_is _ _ _ c.in-Some.is c.in_ok-base-in-NamedMember.ensures p))
 
-pub returns-in-Some-3 : goal.returns-in-Some-3
-returns-in-Some-3 c = λ p otherwise next.
-    computed_refers (view_of p c.args.code.now.nodes) c.args.place c.args.env.index c.args.heap.now c.in-ComputedMember.loc otherwise next c.in-ComputedMember.object c.in-ComputedMember.key c.in-Some-2.base c.in-Some-3.key
+pub returns-in-Ok-Some : goal.returns-in-Ok-Some
+returns-in-Ok-Some c = λ p otherwise next.
+    computed_refers (view_of p c.args.code.now.nodes) c.args.place c.args.env.index c.args.heap.now c.in-ComputedMember.loc otherwise next c.in-ComputedMember.object c.in-ComputedMember.key c.in-Some-2.base c.in-Ok-Some.key
     (ap as_expr (c.node.ensures.read ∙ ap (build (reader c.args.code.now.nodes)) c.in-ComputedMember.is))
-    (some_is _ _ _ c.in-Some-2.is c.in_ok-base-in-ComputedMember.ensures p) (some_is _ _ _ c.in-Some-3.is c.in_ok-key-in-ComputedMember.ensures p)
+    (some_is _ _ _ c.in-Some-2.is c.in_ok-base-in-ComputedMember.ensures p) (some_is _ _ _ c.in-Ok-Some.field-0-is c.in-Ok-Some.ensures p)

@@ -38,7 +38,7 @@ returns-in_ok-made-in-New c = λ p base carries. rw c.in-New.is (heap_becomes _ 
     ∙ ap (λ n. handle (F.comp_coded p (function_at p c.in-New.number) c.in-New.environment.index (object n) c.in-New.arguments) (F.after_construct n)) c.in_ok-made-in-New.ensures.object)))
 
 pub returns-in-CallBuiltIn : goal.returns-in-CallBuiltIn
-returns-in-CallBuiltIn c = IfOk-weaker c.call_built_in.result _ _ (λ step becomes p base carries. rw c.in-CallBuiltIn.is
+returns-in-CallBuiltIn c = IfOk-weaker c.call_built_in-step.result _ _ (λ step becomes p base carries. rw c.in-CallBuiltIn.is
     (rw (sym (built_in_entry (view_of p c.args.code.now.nodes) c.in-CallBuiltIn.callee c.in-CallBuiltIn.function c.in-CallBuiltIn.maker c.in-CallBuiltIn.this c.in-CallBuiltIn.arguments))
     (subst (λ vs. Becomes (F.call_native p (F.hand_on p) c.in-CallBuiltIn.callee.index c.in-CallBuiltIn.function (option_map (λ (o : Object). o.index) c.in-CallBuiltIn.maker) c.in-CallBuiltIn.this vs)
-    (store_in base c.args.state.now) (step_comp (view_of p c.args.code.now.nodes) step) (store_in base c.call_built_in.new.state)) c.as_slice.ensures (becomes p base carries)))) c.call_built_in.ensures
+    (store_in base c.args.state.now) (step_comp (view_of p c.args.code.now.nodes) step) (store_in base c.call_built_in-step.new.state)) c.as_slice.ensures (becomes p base carries)))) c.call_built_in-step.ensures

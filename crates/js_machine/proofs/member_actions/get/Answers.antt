@@ -11,4 +11,4 @@ returns-in_ok-units-in-Name-clause-means c = IfOk-weaker c.get_by_name.result _ 
     (λ control means t. rw c.in-Name.is (means t ∙ ap (λ us. M.or_halt (get_member (heap_of c.args.heap.now) c.args.base.now (text us)) M.give) c.in_ok-units-in-Name.ensures)) c.get_by_name.ensures.means
 
 pub returns-in-Value-clause-means : goal.returns-in-Value-clause-means
-returns-in-Value-clause-means c = rw c.in-Value.is c.get_by_value.ensures.means
+returns-in-Value-clause-means c = rw c.in-Value.is c.get_by_value-control.ensures.means

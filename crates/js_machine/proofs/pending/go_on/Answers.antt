@@ -37,7 +37,7 @@ pub returns-in-Logical-clause-means : goal.returns-in-Logical-clause-means
 returns-in-Logical-clause-means c = λ t. rw c.in-Logical.is (ap (plug t c.args.frames.now.items) (c.logical.ensures.means t))
 
 pub returns-in-Conditional-clause-means : goal.returns-in-Conditional-clause-means
-returns-in-Conditional-clause-means c = λ t. rw c.in-Conditional.is (ap (plug t c.args.frames.now.items) (c.choose.ensures.means t))
+returns-in-Conditional-clause-means c = λ t. rw c.in-Conditional.is (ap (plug t c.args.frames.now.items) (c.choose-control.ensures.means t))
 
 pub returns-in-Comma-clause-means : goal.returns-in-Comma-clause-means
 returns-in-Comma-clause-means c = λ t. rw c.in-Comma.is refl
@@ -70,16 +70,16 @@ pub returns-in-New-clause-less : goal.returns-in-New-clause-less
 returns-in-New-clause-less c = IfOk-weaker c.with_frame-in-New.result _ _ (λ control weight w. rw c.in-New.is (omega (arith, weight w))) c.with_frame-in-New.ensures.weight
 
 pub returns-in-Update-clause-means : goal.returns-in-Update-clause-means
-returns-in-Update-clause-means c = IfOk-weaker c.update.result _ _ (λ next means t. rw c.in-Update.is (means t)) c.update.ensures.means
+returns-in-Update-clause-means c = IfOk-weaker c.update-control.result _ _ (λ next means t. rw c.in-Update.is (means t)) c.update-control.ensures.means
 
 pub returns-in-Instead-clause-means : goal.returns-in-Instead-clause-means
 returns-in-Instead-clause-means c = λ t. rw c.in-Instead.is refl
 
 pub returns-in-TemplatePart-clause-means : goal.returns-in-TemplatePart-clause-means
-returns-in-TemplatePart-clause-means c = IfOk-weaker c.template_text.result _ _ (λ next means t. rw c.in-TemplatePart.is (ap (plug t c.args.frames.now.items) (means t))) c.template_text.ensures.means
+returns-in-TemplatePart-clause-means c = IfOk-weaker c.template_text-control.result _ _ (λ next means t. rw c.in-TemplatePart.is (ap (plug t c.args.frames.now.items) (means t))) c.template_text-control.ensures.means
 
 pub returns-in-TemplatePart-clause-less : goal.returns-in-TemplatePart-clause-less
-returns-in-TemplatePart-clause-less c = IfOk-weaker c.template_text.result _ _ (λ next less w. rw c.in-TemplatePart.is (omega (arith, less w))) c.template_text.ensures.less
+returns-in-TemplatePart-clause-less c = IfOk-weaker c.template_text-control.result _ _ (λ next less w. rw c.in-TemplatePart.is (omega (arith, less w))) c.template_text-control.ensures.less
 
 pub returns-in-Property-clause-means : goal.returns-in-Property-clause-means
 returns-in-Property-clause-means c = λ t. rw c.in-Property.is refl
@@ -88,10 +88,10 @@ pub returns-in-As-clause-means : goal.returns-in-As-clause-means
 returns-in-As-clause-means c = λ t. rw c.in-As.is refl
 
 pub returns-in-Key-clause-means : goal.returns-in-Key-clause-means
-returns-in-Key-clause-means c = IfOk-weaker c.key_text.result _ _ (λ next means t. rw c.in-Key.is (ap (plug t c.args.frames.now.items) (means t))) c.key_text.ensures.means
+returns-in-Key-clause-means c = IfOk-weaker c.key_text-control.result _ _ (λ next means t. rw c.in-Key.is (ap (plug t c.args.frames.now.items) (means t))) c.key_text-control.ensures.means
 
 pub returns-in-Key-clause-less : goal.returns-in-Key-clause-less
-returns-in-Key-clause-less c = IfOk-weaker c.key_text.result _ _ (λ next less w. rw c.in-Key.is (omega (arith, less w))) c.key_text.ensures.less
+returns-in-Key-clause-less c = IfOk-weaker c.key_text-control.result _ _ (λ next less w. rw c.in-Key.is (omega (arith, less w))) c.key_text-control.ensures.less
 
 pub returns-in-BindTo-clause-means : goal.returns-in-BindTo-clause-means
 returns-in-BindTo-clause-means c = λ t. rw c.in-BindTo.is (ap (plug t c.args.frames.now.items) (c.bind_to.ensures.means t))
@@ -106,10 +106,10 @@ pub returns-in-Statement-clause-means : goal.returns-in-Statement-clause-means
 returns-in-Statement-clause-means c = λ t. rw c.in-Statement.is refl
 
 pub returns-in-Choose-clause-means : goal.returns-in-Choose-clause-means
-returns-in-Choose-clause-means c = λ t. rw c.in-Choose.is (ap (plug t c.args.frames.now.items) (c.choose_statement.ensures.means t))
+returns-in-Choose-clause-means c = λ t. rw c.in-Choose.is (ap (plug t c.args.frames.now.items) (c.choose_statement-control.ensures.means t))
 
 pub returns-in-Turn-clause-means : goal.returns-in-Turn-clause-means
-returns-in-Turn-clause-means c = λ t. rw c.in-Turn.is (ap (plug t c.args.frames.now.items) (c.turn.ensures.means t))
+returns-in-Turn-clause-means c = λ t. rw c.in-Turn.is (ap (plug t c.args.frames.now.items) (c.turn-control.ensures.means t))
 
 pub returns-in-Started-clause-means : goal.returns-in-Started-clause-means
 returns-in-Started-clause-means c = λ t. rw c.in-Started.is refl
@@ -127,7 +127,7 @@ pub returns-in-Switch-clause-means : goal.returns-in-Switch-clause-means
 returns-in-Switch-clause-means c = λ t. rw c.in-Switch.is refl
 
 pub returns-in-Tested-clause-means : goal.returns-in-Tested-clause-means
-returns-in-Tested-clause-means c = IfOk-weaker c.tested.result _ _ (λ next means t. rw c.in-Tested.is (means t)) c.tested.ensures.means
+returns-in-Tested-clause-means c = IfOk-weaker c.tested-control.result _ _ (λ next means t. rw c.in-Tested.is (means t)) c.tested-control.ensures.means
 
 pub returns-in-Fallen-clause-means : goal.returns-in-Fallen-clause-means
 returns-in-Fallen-clause-means c = λ t. rw c.in-Fallen.is refl
@@ -157,16 +157,16 @@ pub returns-in_ok-push-in-Item-clause-means : goal.returns-in_ok-push-in-Item-cl
 returns-in_ok-push-in-Item-clause-means c = λ t. rw (c.in-Item.is, c.in_ok-push-in-Item.ensures.ok) refl
 
 pub returns-in-Update-clause-less : goal.returns-in-Update-clause-less
-returns-in-Update-clause-less c = IfOk-weaker c.update.result _ _ (λ next less w. rw c.in-Update.is (less w)) c.update.ensures.less
+returns-in-Update-clause-less c = IfOk-weaker c.update-control.result _ _ (λ next less w. rw c.in-Update.is (less w)) c.update-control.ensures.less
 
 pub returns-in-Tested-clause-less : goal.returns-in-Tested-clause-less
-returns-in-Tested-clause-less c = IfOk-weaker c.tested.result _ _ (λ next less w. rw c.in-Tested.is (less w)) c.tested.ensures.less
+returns-in-Tested-clause-less c = IfOk-weaker c.tested-control.result _ _ (λ next less w. rw c.in-Tested.is (less w)) c.tested-control.ensures.less
 
 pub returns-in-Logical-clause-less : goal.returns-in-Logical-clause-less
 returns-in-Logical-clause-less c = λ w. rw c.in-Logical.is (omega (arith, c.logical.ensures.less w))
 
 pub returns-in-Conditional-clause-less : goal.returns-in-Conditional-clause-less
-returns-in-Conditional-clause-less c = λ w. rw c.in-Conditional.is (omega (arith, c.choose.ensures.less w))
+returns-in-Conditional-clause-less c = λ w. rw c.in-Conditional.is (omega (arith, c.choose-control.ensures.less w))
 
 pub returns-in-Put-clause-less : goal.returns-in-Put-clause-less
 returns-in-Put-clause-less c = λ w. rw c.in-Put.is (omega (arith, c.put.ensures.less w))
@@ -175,10 +175,10 @@ pub returns-in-BindTo-clause-less : goal.returns-in-BindTo-clause-less
 returns-in-BindTo-clause-less c = λ w. rw c.in-BindTo.is (omega (arith, c.bind_to.ensures.less w))
 
 pub returns-in-Choose-clause-less : goal.returns-in-Choose-clause-less
-returns-in-Choose-clause-less c = λ w. rw c.in-Choose.is (omega (arith, c.choose_statement.ensures.less w))
+returns-in-Choose-clause-less c = λ w. rw c.in-Choose.is (omega (arith, c.choose_statement-control.ensures.less w))
 
 pub returns-in-Turn-clause-less : goal.returns-in-Turn-clause-less
-returns-in-Turn-clause-less c = λ w. rw c.in-Turn.is (omega (arith, c.turn.ensures.less w))
+returns-in-Turn-clause-less c = λ w. rw c.in-Turn.is (omega (arith, c.turn-control.ensures.less w))
 
 pub returns-in-Subject-clause-less : goal.returns-in-Subject-clause-less
 returns-in-Subject-clause-less c = λ w. rw c.in-Subject.is (omega (arith, c.subject.ensures.less w))

@@ -7,22 +7,16 @@ use Rattle.js_meaning.specs.Meaning as M
 use Rattle.js_machine.specs.declared.data.Action.TheVariants as action
 use Rattle.js_machine.specs.declared.data.Control.{Control}
 use Rattle.js_machine.specs.declared.data.Control.TheVariants as control
-use Rattle.js_machine.specs.declared.data.Task.TheVariants as task
 use Rattle.std.proofs.Common.{◌≡◌}
 use Rattle.js_machine.specs.private.Config.{view_of, name_of, control_comp}
-use Rattle.js_machine.proofs.Acts.{acts, looks_at, turns_as, both, performed, performs}
+use Rattle.js_machine.proofs.Acts.{acts, looks_at, turns_as, both, performs}
 use Rattle.js_value.specs.Members.{get_member, put_member}
 use Rattle.std.proofs.Common.{Some}
 use Rattle.js_value.specs.Functions.{closed}
 use Rattle.js_value.specs.Host.{error_made, error_of, message_of}
 use Rattle.js_value.specs.Iterations.{iterated, keys_of, next_of, Keys}
-use Rattle.js_value.specs.Objects as objects
-use Rattle.js_value.specs.Objects.{next_object, new_object}
-use Rattle.js_value.specs.Realm.{number_of, object}
-use Rattle.js_value.specs.State.{Plain, RegExp}
-use Rattle.js_value.specs.declared.built_in.Place.TheVariants.{ObjectPrototype, RegExpPrototype}
-use Rattle.js_code.specs.Code.{reader}
-use Rattle.js_code.specs.Part.{as_properties}
+use Rattle.js_value.specs.Objects.{next_object}
+use Rattle.js_value.specs.Realm.{object}
 use Rattle.js_host.specs.Iteration.{plain_iteration}
 use Rattle.js_meaning.specs.declared.outcome.Completion.TheVariants as completion
 use Rattle.js_meaning.specs.Effects.{ret}
@@ -92,26 +86,26 @@ pub returns-in-Gathered-clause-becomes : goal.returns-in-Gathered-clause-becomes
 returns-in-Gathered-clause-becomes c = performs c.args.code.now c.args.state.now c.args.action (action.Gathered c.in-Gathered.gathering c.in-Gathered.values) c.in-Gathered.is c.gathered.result c.gathered.new.heap c.gathered.ensures.means
 
 pub returns-in-GetMember-clause-becomes : goal.returns-in-GetMember-clause-becomes
-returns-in-GetMember-clause-becomes c = performs c.args.code.now c.args.state.now c.args.action (action.GetMember c.in-GetMember.base c.in-GetMember.key) c.in-GetMember.is c.get.result c.args.state.now.heap
-    (IfOk-weaker c.get.result _ _ (λ control means p of. looks_at c.args.state.now.heap (λ h. M.or_halt (get_member h c.in-GetMember.base (key_of (view_of p c.args.code.now.nodes) c.in-GetMember.key)) M.give) (control_comp (view_of p c.args.code.now.nodes) control)
-    (means (view_of p c.args.code.now.nodes) ∙ ap (λ k. M.or_halt (get_member (heap_of c.args.state.now.heap) c.in-GetMember.base k) M.give) (key_told p c.args.code.now.nodes c.in-GetMember.key))) c.get.ensures.means)
+returns-in-GetMember-clause-becomes c = performs c.args.code.now c.args.state.now c.args.action (action.GetMember c.in-GetMember.base c.in-GetMember.key) c.in-GetMember.is c.get-control.result c.args.state.now.heap
+    (IfOk-weaker c.get-control.result _ _ (λ control means p of. looks_at c.args.state.now.heap (λ h. M.or_halt (get_member h c.in-GetMember.base (key_of (view_of p c.args.code.now.nodes) c.in-GetMember.key)) M.give) (control_comp (view_of p c.args.code.now.nodes) control)
+    (means (view_of p c.args.code.now.nodes) ∙ ap (λ k. M.or_halt (get_member (heap_of c.args.state.now.heap) c.in-GetMember.base k) M.give) (key_told p c.args.code.now.nodes c.in-GetMember.key))) c.get-control.ensures.means)
 
 pub returns-in-PutMember-clause-becomes : goal.returns-in-PutMember-clause-becomes
-returns-in-PutMember-clause-becomes c = performs c.args.code.now c.args.state.now c.args.action (action.PutMember c.in-PutMember.base c.in-PutMember.key c.in-PutMember.value) c.in-PutMember.is c.put_by_key.result c.put_by_key.new.heap
-    (IfOk-weaker c.put_by_key.result _ _ (λ control w p of.
-    acts c.args.state.now.heap c.put_by_key.new.heap (λ h. (put_member c.in-PutMember.base (key_of (view_of p c.args.code.now.nodes) c.in-PutMember.key) c.in-PutMember.value h).heap)
+returns-in-PutMember-clause-becomes c = performs c.args.code.now c.args.state.now c.args.action (action.PutMember c.in-PutMember.base c.in-PutMember.key c.in-PutMember.value) c.in-PutMember.is c.put_by_key-control.result c.put_by_key-control.new.heap
+    (IfOk-weaker c.put_by_key-control.result _ _ (λ control w p of.
+    acts c.args.state.now.heap c.put_by_key-control.new.heap (λ h. (put_member c.in-PutMember.base (key_of (view_of p c.args.code.now.nodes) c.in-PutMember.key) c.in-PutMember.value h).heap)
     (λ h. M.unless_halted (put_member c.in-PutMember.base (key_of (view_of p c.args.code.now.nodes) c.in-PutMember.key) c.in-PutMember.value h).halt (M.give c.in-PutMember.value)) (control_comp (view_of p c.args.code.now.nodes) control)
     (w.0 ∙ ap (λ k. (put_member c.in-PutMember.base k c.in-PutMember.value (heap_of c.args.state.now.heap)).heap) (key_told p c.args.code.now.nodes c.in-PutMember.key))
     (w.1 (view_of p c.args.code.now.nodes) ∙ ap (λ k. M.unless_halted (put_member c.in-PutMember.base k c.in-PutMember.value (heap_of c.args.state.now.heap)).halt (M.give c.in-PutMember.value)) (key_told p c.args.code.now.nodes c.in-PutMember.key)))
-    (both c.put_by_key.result _ _ c.put_by_key.ensures.after c.put_by_key.ensures.means))
+    (both c.put_by_key-control.result _ _ c.put_by_key-control.ensures.after c.put_by_key-control.ensures.means))
 
 pub returns-in-Operate-clause-becomes : goal.returns-in-Operate-clause-becomes
-returns-in-Operate-clause-becomes c = performs c.args.code.now c.args.state.now c.args.action (action.Operate c.in-Operate.operator c.in-Operate.left c.in-Operate.right) c.in-Operate.is c.operate.result c.args.state.now.heap
-    (IfOk-weaker c.operate.result _ _ (λ control means p of. operated_turns c.in-Operate.operator c.in-Operate.left c.in-Operate.right c.args.state.now.heap (control_comp (view_of p c.args.code.now.nodes) control) (means (view_of p c.args.code.now.nodes))) c.operate.ensures.means)
+returns-in-Operate-clause-becomes c = performs c.args.code.now c.args.state.now c.args.action (action.Operate c.in-Operate.operator c.in-Operate.left c.in-Operate.right) c.in-Operate.is c.operate-control.result c.args.state.now.heap
+    (IfOk-weaker c.operate-control.result _ _ (λ control means p of. operated_turns c.in-Operate.operator c.in-Operate.left c.in-Operate.right c.args.state.now.heap (control_comp (view_of p c.args.code.now.nodes) control) (means (view_of p c.args.code.now.nodes))) c.operate-control.ensures.means)
 
 pub returns-in-OperateUnary-clause-becomes : goal.returns-in-OperateUnary-clause-becomes
-returns-in-OperateUnary-clause-becomes c = performs c.args.code.now c.args.state.now c.args.action (action.OperateUnary c.in-OperateUnary.operator c.in-OperateUnary.value) c.in-OperateUnary.is c.operate_unary.result c.args.state.now.heap
-    (IfOk-weaker c.operate_unary.result _ _ (λ control means p of. unary_turns c.in-OperateUnary.operator c.in-OperateUnary.value c.args.state.now.heap (control_comp (view_of p c.args.code.now.nodes) control) (means (view_of p c.args.code.now.nodes))) c.operate_unary.ensures.means)
+returns-in-OperateUnary-clause-becomes c = performs c.args.code.now c.args.state.now c.args.action (action.OperateUnary c.in-OperateUnary.operator c.in-OperateUnary.value) c.in-OperateUnary.is c.operate_unary-control.result c.args.state.now.heap
+    (IfOk-weaker c.operate_unary-control.result _ _ (λ control means p of. unary_turns c.in-OperateUnary.operator c.in-OperateUnary.value c.args.state.now.heap (control_comp (view_of p c.args.code.now.nodes) control) (means (view_of p c.args.code.now.nodes))) c.operate_unary-control.ensures.means)
 
 pub returns-in-TypeOfName-clause-becomes : goal.returns-in-TypeOfName-clause-becomes
 returns-in-TypeOfName-clause-becomes c = performs c.args.code.now c.args.state.now c.args.action (action.TypeOfName c.in-TypeOfName.name c.in-TypeOfName.env) c.in-TypeOfName.is c.type_of_name.result c.args.state.now.heap
@@ -132,8 +126,8 @@ returns-in-GoThroughKeys-clause-becomes c = performs c.args.code.now c.args.stat
     (IfOk-weaker c.go_through_keys.result _ _ (λ control means p of. looks_at c.args.state.now.heap (λ h. goes_through (view_of p c.args.code.now.nodes) c.in-GoThroughKeys.round (Keys c.in-GoThroughKeys.value (keys_of h c.in-GoThroughKeys.value))) (control_comp (view_of p c.args.code.now.nodes) control) (means (view_of p c.args.code.now.nodes))) c.go_through_keys.ensures.means)
 
 pub returns-in-GoThroughItems-clause-becomes : goal.returns-in-GoThroughItems-clause-becomes
-returns-in-GoThroughItems-clause-becomes c = performs c.args.code.now c.args.state.now c.args.action (action.GoThroughItems c.in-GoThroughItems.round c.in-GoThroughItems.value) c.in-GoThroughItems.is c.go_through_items.result c.args.state.now.heap
-    (IfOk-weaker c.go_through_items.result _ _ (λ control means p of. looks_at c.args.state.now.heap (λ h. M.or_halt (iterated h c.in-GoThroughItems.value) (goes_through (view_of p c.args.code.now.nodes) c.in-GoThroughItems.round)) (control_comp (view_of p c.args.code.now.nodes) control) (means (view_of p c.args.code.now.nodes))) c.go_through_items.ensures.means)
+returns-in-GoThroughItems-clause-becomes c = performs c.args.code.now c.args.state.now c.args.action (action.GoThroughItems c.in-GoThroughItems.round c.in-GoThroughItems.value) c.in-GoThroughItems.is c.go_through_items-control.result c.args.state.now.heap
+    (IfOk-weaker c.go_through_items-control.result _ _ (λ control means p of. looks_at c.args.state.now.heap (λ h. M.or_halt (iterated h c.in-GoThroughItems.value) (goes_through (view_of p c.args.code.now.nodes) c.in-GoThroughItems.round)) (control_comp (view_of p c.args.code.now.nodes) control) (means (view_of p c.args.code.now.nodes))) c.go_through_items-control.ensures.means)
 
 pub returns-in-Caught-clause-becomes : goal.returns-in-Caught-clause-becomes
 returns-in-Caught-clause-becomes c = performs c.args.code.now c.args.state.now c.args.action (action.Caught c.in-Caught.name c.in-Caught.value c.in-Caught.block c.in-Caught.env) c.in-Caught.is c.catch_name.result c.catch_name.new.heap
@@ -150,27 +144,6 @@ returns-in-Close-clause-becomes c = performs c.args.code.now c.args.state.now c.
     acts c.args.state.now.heap c.close_titled.new.heap (closed (shape_of (code_of (view_of p c.args.code.now.nodes) c.in-Close.form c.in-Close.function)) (units_of (view_of p c.args.code.now.nodes) c.in-Close.title) c.in-Close.env.index) (λ h. M.give (object (next_object h)))
     (control_comp (view_of p c.args.code.now.nodes) control) (w.0 ∙ ap (λ us. closed (shape_of (code_of (view_of p c.args.code.now.nodes) c.in-Close.form c.in-Close.function)) us c.in-Close.env.index (heap_of c.args.state.now.heap)) (units_told p c.args.code.now.nodes c.in-Close.title)) (ap (control_comp (view_of p c.args.code.now.nodes)) w.1))
     (both c.close_titled.result _ _ c.close_titled.ensures.after c.close_titled.ensures.control))
-
-pub returns-in_ok-object-in-MakeRegExp-clause-becomes : goal.returns-in_ok-object-in-MakeRegExp-clause-becomes
-returns-in_ok-object-in-MakeRegExp-clause-becomes c = performed c.args.code.now c.args.state.now c.args.action action.MakeRegExp c.in-MakeRegExp.is c.give_object.result c.object.new.self (λ p of.
-    acts c.args.state.now.heap c.object.new.self (new_object RegExp (Some (number_of RegExpPrototype))) (λ h. M.give (object (next_object h))) (control_comp (view_of p c.args.code.now.nodes) c.give_object.result)
-    (c.in_ok-object-in-MakeRegExp.ensures.ok ∙ ap (λ n. new_object RegExp (Some n) (heap_of c.args.state.now.heap)) c.object_at.ensures)
-    (ap (control_comp (view_of p c.args.code.now.nodes)) c.give_object.ensures ∙ ap (λ n. M.give (object n)) c.in_ok-object-in-MakeRegExp.ensures.object))
-
-pub returns-in_ok-object-in-MakeObject-clause-becomes : goal.returns-in_ok-object-in-MakeObject-clause-becomes
-returns-in_ok-object-in-MakeObject-clause-becomes c =
-    let next : Control = control.Begin (task.DefineAll c.in-MakeObject.properties c.in-MakeObject.env c.in_ok-object-in-MakeObject.object) in
-    performed c.args.code.now c.args.state.now c.args.action (action.MakeObject c.in-MakeObject.properties c.in-MakeObject.env) c.in-MakeObject.is next c.object-in-MakeObject.new.self (λ p of.
-    acts c.args.state.now.heap c.object-in-MakeObject.new.self (new_object Plain (Some (number_of ObjectPrototype))) (λ h. M.comp_properties p (as_properties (reader c.args.code.now.nodes c.in-MakeObject.properties)) c.in-MakeObject.env.index (next_object h)) (control_comp (view_of p c.args.code.now.nodes) next)
-    (c.in_ok-object-in-MakeObject.ensures.ok ∙ ap (λ n. new_object Plain (Some n) (heap_of c.args.state.now.heap)) c.object_at-in-MakeObject.ensures)
-    (ap (M.comp_properties p (as_properties (reader c.args.code.now.nodes c.in-MakeObject.properties)) c.in-MakeObject.env.index) c.in_ok-object-in-MakeObject.ensures.object))
-
-pub returns-in_ok-key-in-Define-clause-becomes : goal.returns-in_ok-key-in-Define-clause-becomes
-returns-in_ok-key-in-Define-clause-becomes c = performs c.args.code.now c.args.state.now c.args.action (action.Define c.in-Define.object c.in-Define.key c.in-Define.value) c.in-Define.is c.define.result c.define.new.heap
-    (IfOk-weaker c.define.result _ _ (λ control w p of.
-    acts c.args.state.now.heap c.define.new.heap (objects.define c.in-Define.object.index (objects.assigned (units_of (view_of p c.args.code.now.nodes) c.in-Define.key) c.in-Define.value)) (λ h. M.done) (control_comp (view_of p c.args.code.now.nodes) control)
-    (w.0 ∙ ap (λ us. objects.define c.in-Define.object.index (objects.assigned us c.in-Define.value) (heap_of c.args.state.now.heap)) (c.in_ok-key-in-Define.ensures ∙ units_told p c.args.code.now.nodes c.in-Define.key)) (w.1 (view_of p c.args.code.now.nodes)))
-    (both c.define.result _ _ c.define.ensures.after c.define.ensures.means))
 
 pub returns-in-StartCall-clause-becomes : goal.returns-in-StartCall-clause-becomes
 returns-in-StartCall-clause-becomes c = performs c.args.code.now c.args.state.now c.args.action (action.StartCall c.in-StartCall.this c.in-StartCall.function c.in-StartCall.env c.in-StartCall.arguments) c.in-StartCall.is c.start_function.result c.start_function.new.heap
@@ -196,10 +169,10 @@ pub returns-in-Initialize-clause-less : goal.returns-in-Initialize-clause-less
 returns-in-Initialize-clause-less c = IfOk-weaker c.initialize.result _ _ (λ control less. rw c.in-Initialize.is (less place_weight)) c.initialize.ensures.less
 
 pub returns-in-GetMember-clause-less : goal.returns-in-GetMember-clause-less
-returns-in-GetMember-clause-less c = IfOk-weaker c.get.result _ _ (λ control less. rw c.in-GetMember.is (less place_weight)) c.get.ensures.less
+returns-in-GetMember-clause-less c = IfOk-weaker c.get-control.result _ _ (λ control less. rw c.in-GetMember.is (less place_weight)) c.get-control.ensures.less
 
 pub returns-in-Operate-clause-less : goal.returns-in-Operate-clause-less
-returns-in-Operate-clause-less c = IfOk-weaker c.operate.result _ _ (λ control less. rw c.in-Operate.is (less place_weight)) c.operate.ensures.less
+returns-in-Operate-clause-less c = IfOk-weaker c.operate-control.result _ _ (λ control less. rw c.in-Operate.is (less place_weight)) c.operate-control.ensures.less
 
 pub returns-in-TypeOfName-clause-less : goal.returns-in-TypeOfName-clause-less
 returns-in-TypeOfName-clause-less c = IfOk-weaker c.type_of_name.result _ _ (λ control less. rw c.in-TypeOfName.is (less place_weight)) c.type_of_name.ensures.less
@@ -217,16 +190,13 @@ pub returns-in-GoThroughKeys-clause-less : goal.returns-in-GoThroughKeys-clause-
 returns-in-GoThroughKeys-clause-less c = IfOk-weaker c.go_through_keys.result _ _ (λ control less. rw c.in-GoThroughKeys.is (less place_weight)) c.go_through_keys.ensures.less
 
 pub returns-in-GoThroughItems-clause-less : goal.returns-in-GoThroughItems-clause-less
-returns-in-GoThroughItems-clause-less c = IfOk-weaker c.go_through_items.result _ _ (λ control less. rw c.in-GoThroughItems.is (less place_weight)) c.go_through_items.ensures.less
+returns-in-GoThroughItems-clause-less c = IfOk-weaker c.go_through_items-control.result _ _ (λ control less. rw c.in-GoThroughItems.is (less place_weight)) c.go_through_items-control.ensures.less
 
 pub returns-in-EnterBody-clause-less : goal.returns-in-EnterBody-clause-less
 returns-in-EnterBody-clause-less c = IfOk-weaker c.enter_function.result _ _ (λ control less. rw c.in-EnterBody.is less) c.enter_function.ensures.less
 
 pub returns-in-PutMember-clause-less : goal.returns-in-PutMember-clause-less
-returns-in-PutMember-clause-less c = IfOk-weaker c.put_by_key.result _ _ (λ control less. rw c.in-PutMember.is (less place_weight)) c.put_by_key.ensures.less
-
-pub returns-in_ok-key-in-Define-clause-less : goal.returns-in_ok-key-in-Define-clause-less
-returns-in_ok-key-in-Define-clause-less c = IfOk-weaker c.define.result _ _ (λ control less. rw c.in-Define.is (less place_weight)) c.define.ensures.less
+returns-in-PutMember-clause-less c = IfOk-weaker c.put_by_key-control.result _ _ (λ control less. rw c.in-PutMember.is (less place_weight)) c.put_by_key-control.ensures.less
 
 pub returns-in-EnterBlock-clause-less : goal.returns-in-EnterBlock-clause-less
 returns-in-EnterBlock-clause-less c = IfOk-weaker c.enter_block.result _ _ (λ control less. rw c.in-EnterBlock.is less) c.enter_block.ensures.less
@@ -235,7 +205,7 @@ pub returns-in-EnterSwitch-clause-less : goal.returns-in-EnterSwitch-clause-less
 returns-in-EnterSwitch-clause-less c = IfOk-weaker c.enter_switch.result _ _ (λ control less. rw c.in-EnterSwitch.is less) c.enter_switch.ensures.less
 
 pub returns-in-OperateUnary-clause-less : goal.returns-in-OperateUnary-clause-less
-returns-in-OperateUnary-clause-less c = IfOk-weaker c.operate_unary.result _ _ (λ control less. rw c.in-OperateUnary.is (omega (arith, less place_weight))) c.operate_unary.ensures.less
+returns-in-OperateUnary-clause-less c = IfOk-weaker c.operate_unary-control.result _ _ (λ control less. rw c.in-OperateUnary.is (omega (arith, less place_weight))) c.operate_unary-control.ensures.less
 
 pub returns-in-EnterLoop-clause-less : goal.returns-in-EnterLoop-clause-less
 returns-in-EnterLoop-clause-less c = IfOk-weaker c.enter_loop.result _ _ (λ control less. rw c.in-EnterLoop.is (omega (arith, less place_weight))) c.enter_loop.ensures.less
@@ -258,14 +228,29 @@ returns-in-Throw-clause-less c = IfOk-weaker c.throw.result (λ (k : Control). k
 pub returns-in-Close-clause-less : goal.returns-in-Close-clause-less
 returns-in-Close-clause-less c = IfOk-weaker c.close_titled.result (λ (k : Control). k ≡ control.Give (completion.Normal (object (next_object (heap_of c.args.state.now.heap))))) _ (λ k is. rw (c.in-Close.is, is) (omega arith)) c.close_titled.ensures.control
 
-pub returns-in_ok-object-in-MakeRegExp-clause-less : goal.returns-in_ok-object-in-MakeRegExp-clause-less
-returns-in_ok-object-in-MakeRegExp-clause-less c = rw (c.in-MakeRegExp.is, c.give_object.ensures) (omega arith)
-
-pub returns-in_ok-object-in-MakeObject-clause-less : goal.returns-in_ok-object-in-MakeObject-clause-less
-returns-in_ok-object-in-MakeObject-clause-less c = rw c.in-MakeObject.is (omega arith)
-
 pub returns-in-StartCall-clause-less : goal.returns-in-StartCall-clause-less
 returns-in-StartCall-clause-less c = IfOk-weaker c.start_function.result _ _ (λ control less. rw c.in-StartCall.is less) c.start_function.ensures.less
 
 pub returns-in-LeaveCache-clause-less : goal.returns-in-LeaveCache-clause-less
 returns-in-LeaveCache-clause-less c = rw c.in-LeaveCache.is (omega arith)
+
+pub returns-in-MakeRegExp-clause-becomes : goal.returns-in-MakeRegExp-clause-becomes
+returns-in-MakeRegExp-clause-becomes c = performs c.args.code.now c.args.state.now c.args.action action.MakeRegExp c.in-MakeRegExp.is c.make_reg_exp.result c.make_reg_exp.new.heap
+    (IfOk-weaker c.make_reg_exp.result _ _ (λ control turns p of. turns (view_of p c.args.code.now.nodes)) c.make_reg_exp.ensures.means)
+
+pub returns-in-MakeObject-clause-becomes : goal.returns-in-MakeObject-clause-becomes
+returns-in-MakeObject-clause-becomes c = performs c.args.code.now c.args.state.now c.args.action (action.MakeObject c.in-MakeObject.properties c.in-MakeObject.env) c.in-MakeObject.is c.make_object.result c.make_object.new.heap
+    (IfOk-weaker c.make_object.result _ _ (λ control turns p of. turns (view_of p c.args.code.now.nodes)) c.make_object.ensures.means)
+
+pub returns-in-Define-clause-becomes : goal.returns-in-Define-clause-becomes
+returns-in-Define-clause-becomes c = performs c.args.code.now c.args.state.now c.args.action (action.Define c.in-Define.object c.in-Define.key c.in-Define.value) c.in-Define.is c.define_titled.result c.define_titled.new.heap
+    (IfOk-weaker c.define_titled.result _ _ (λ control turns p of. turns p) c.define_titled.ensures.means)
+
+pub returns-in-MakeRegExp-clause-less : goal.returns-in-MakeRegExp-clause-less
+returns-in-MakeRegExp-clause-less c = IfOk-weaker c.make_reg_exp.result _ _ (λ control less. rw c.in-MakeRegExp.is (less place_weight)) c.make_reg_exp.ensures.less
+
+pub returns-in-MakeObject-clause-less : goal.returns-in-MakeObject-clause-less
+returns-in-MakeObject-clause-less c = IfOk-weaker c.make_object.result _ _ (λ control less. rw c.in-MakeObject.is (omega (arith, less place_weight))) c.make_object.ensures.less
+
+pub returns-in-Define-clause-less : goal.returns-in-Define-clause-less
+returns-in-Define-clause-less c = IfOk-weaker c.define_titled.result _ _ (λ control less. rw c.in-Define.is (less place_weight)) c.define_titled.ensures.less

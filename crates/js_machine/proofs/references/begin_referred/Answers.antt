@@ -13,13 +13,13 @@ returns-in-Call-clause-means c = rw c.in-Call.is c.call_reference.ensures.means
 pub returns-in-Call-clause-less : goal.returns-in-Call-clause-less
 returns-in-Call-clause-less c = rw c.in-Call.is c.call_reference.ensures.less
 
-pub returns-in_ok-same-in-Update-clause-means : goal.returns-in_ok-same-in-Update-clause-means
-returns-in_ok-same-in-Update-clause-means c = IfOk-weaker c.with_frame.result _ _ (λ control means t. rw c.in-Update.is (means t
-    ∙ ap (λ r. plug t c.args.frames.now.items (handle (control_comp t c.get.result) (frame_comp t (frame.Value (pending.Update c.in-Update.prefix c.in-Update.operator r c.args.env))))) c.in_ok-same-in-Update.ensures
+pub returns-in-Ok-clause-means : goal.returns-in-Ok-clause-means
+returns-in-Ok-clause-means c = IfOk-weaker c.with_frame.result _ _ (λ control means t. rw c.in-Update.is (means t
+    ∙ ap (λ r. plug t c.args.frames.now.items (handle (control_comp t c.get.result) (frame_comp t (frame.Value (pending.Update c.in-Update.prefix c.in-Update.operator r c.args.env))))) c.in-Ok.ensures
     ∙ ap (λ d. plug t c.args.frames.now.items (handle d (M.with_value (pending_comp t (pending.Update c.in-Update.prefix c.in-Update.operator c.args.reference c.args.env))))) (c.get.ensures.means t))) c.with_frame.ensures.means
 
-pub returns-in_ok-same-in-Update-clause-less : goal.returns-in_ok-same-in-Update-clause-less
-returns-in_ok-same-in-Update-clause-less c = IfOk-weaker c.with_frame.result _ _ (λ control weight w. rw c.in-Update.is (omega (arith, weight w, c.get.ensures.less w))) c.with_frame.ensures.weight
+pub returns-in-Ok-clause-less : goal.returns-in-Ok-clause-less
+returns-in-Ok-clause-less c = IfOk-weaker c.with_frame.result _ _ (λ control weight w. rw c.in-Update.is (omega (arith, weight w, c.get.ensures.less w))) c.with_frame.ensures.weight
 
 pub returns-in-Delete-clause-means : goal.returns-in-Delete-clause-means
 returns-in-Delete-clause-means c = λ t. rw c.in-Delete.is refl

@@ -13,9 +13,9 @@ returns-in-Name-clause-means c = IfOk-weaker c.with_frame.result _ _ (λ control
 pub returns-in-Name-clause-less : goal.returns-in-Name-clause-less
 returns-in-Name-clause-less c = IfOk-weaker c.with_frame.result _ _ (λ control weight w. omega (arith, weight w)) c.with_frame.ensures.weight
 
-pub returns-in_ok-this-in-Member-clause-means : goal.returns-in_ok-this-in-Member-clause-means
-returns-in_ok-this-in-Member-clause-means c = IfOk-weaker c.with_frame-in-Member.result _ _ (λ control means t. rw c.in-Member.is (means t
-    ∙ ap (λ v. plug t c.args.frames.now.items (handle (M.get_member_of c.in-Member.base (key_of t c.in-Member.key)) (frame_comp t (frame.Value (pending.Callee c.args.arguments c.args.env v))))) c.in_ok-this-in-Member.ensures)) c.with_frame-in-Member.ensures.means
+pub returns-in-Ok-clause-means : goal.returns-in-Ok-clause-means
+returns-in-Ok-clause-means c = IfOk-weaker c.with_frame-in-Ok.result _ _ (λ control means t. rw c.in-Member.is (means t
+    ∙ ap (λ v. plug t c.args.frames.now.items (handle (M.get_member_of c.in-Member.base (key_of t c.in-Member.key)) (frame_comp t (frame.Value (pending.Callee c.args.arguments c.args.env v))))) c.in-Ok.ensures)) c.with_frame-in-Ok.ensures.means
 
-pub returns-in_ok-this-in-Member-clause-less : goal.returns-in_ok-this-in-Member-clause-less
-returns-in_ok-this-in-Member-clause-less c = IfOk-weaker c.with_frame-in-Member.result _ _ (λ control weight w. omega (arith, weight w)) c.with_frame-in-Member.ensures.weight
+pub returns-in-Ok-clause-less : goal.returns-in-Ok-clause-less
+returns-in-Ok-clause-less c = IfOk-weaker c.with_frame-in-Ok.result _ _ (λ control weight w. omega (arith, weight w)) c.with_frame-in-Ok.ensures.weight

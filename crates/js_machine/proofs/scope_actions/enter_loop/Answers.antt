@@ -1,21 +1,4 @@
-use Rattle.std.proofs.Common.{sym, ap, ◌∙◌}
-use Rattle.std.proofs.Common.{[], map}
-use Rattle.std.proofs.lemmas.Bool.{false≢true}
-use Rattle.js_heap.specs.Heap.{heap_of}
-use Rattle.js_heap.specs.Environment.{plain_binding}
-use Rattle.js_meaning.specs.Scopes.{scope_made}
-use Rattle.js_machine.specs.private.Config.{view_of, scope_of, scoped_comp}
-use Rattle.js_machine.proofs.Entered.{enters, enters_none, enters_loop, some_names}
 use Rattle.js_machine.proofs.scope_actions.enter_loop.Goals as goal
 
-pub returns-then-is_empty-clause-means : goal.returns-then-is_empty-clause-means
-returns-then-is_empty-clause-means c = λ p.
-    enters_loop (view_of p c.args.code.now.nodes) c.args.next c.args.env.index c.args.env.index c.args.heap.now c.args.heap.now (scoped_comp (view_of p c.args.code.now.nodes) c.args.next)
-    (enters_none (scope_of (view_of p c.args.code.now.nodes) c.args.next).lexical c.args.env.index (heap_of c.args.heap.now) (sym (c.in_ok-names.ensures p) ∙ ap (map plain_binding) (c.is_empty.ensures.0 c.if-is_empty.true)))
-
-pub returns-clause-means : goal.returns-clause-means
-returns-clause-means c = λ p.
-    enters_loop (view_of p c.args.code.now.nodes) c.args.next c.args.env.index c.in_ok-inner.inner.index c.args.heap.now c.make_scope.new.heap (scoped_comp (view_of p c.args.code.now.nodes) c.args.next)
-    (enters (scope_of (view_of p c.args.code.now.nodes) c.args.next).lexical [] c.args.env.index (heap_of c.args.heap.now) c.in_ok-inner.inner.index (heap_of c.make_scope.new.heap)
-    (λ e. some_names c.in_ok-names.names (λ n. false≢true (sym c.if-is_empty.false ∙ c.is_empty.ensures.1 n)) (c.in_ok-names.ensures p ∙ e))
-    c.in_ok-inner.ensures.environment (c.in_ok-inner.ensures.made ∙ ap (λ xs. scope_made xs c.args.env.index (heap_of c.args.heap.now)) (c.in_ok-names.ensures p)))
+pub returns-in-Ok-clause-means : goal.returns-in-Ok-clause-means
+returns-in-Ok-clause-means c = λ p. c.in-Ok.ensures p

@@ -10,7 +10,7 @@ use Rattle.js_machine.proofs.scopes.put_variables.Goals as goal
 pub loop-name-preserved : goal.loop-name-preserved
 loop-name-preserved c =
     let first : List ℕ → Binding = λ name. variable_of (first_value c.args.params.now c.args.env.index (heap_of c.args.heap.now) name) name in
-    pushed c.loop-name.names c.push.new.self _ (first c.name-item.result) (map first (drop (c.loop-name.name-index + 1) c.args.variables.now)) c.in_ok-push.ensures.ok
-    (same_binding _ _ _ (first c.name-item.result) c.in_ok-copy.ensures (ap Some c.in_ok-first_value_of.ensures) refl)
+    pushed c.loop-name.names c.put_binding.new.names _ (first c.name-item.result) (map first (drop (c.loop-name.name-index + 1) c.args.variables.now)) c.in_ok-put_binding.ensures
+    (same_binding _ _ _ (first c.name-item.result) refl (ap Some c.in_ok-value.ensures) refl)
     ∙ ap (λ xs. map plain_binding c.loop-name.names ++ map first xs) (sym (unrolled c.args.variables.now c.loop-name.name-index c.name-item.result c.loop-name-test.true c.name-item.is))
     ∙ c.loop-name.invariant
