@@ -1,7 +1,6 @@
 -- Functions, whose numbers come before their parts and whose codes come after them.
-use Rattle.std.proofs.Common.{◌≡◌, ℕ, zero, suc, ◌<◌, ◌≤◌, true, false, Option, Result, IfOk, List, [], ◌∷◌, ◌++◌, length, refl, sym, ap, subst, ◌∙◌, arith, append_assoc, length-append}
+use Rattle.std.proofs.Common.{◌≡◌, ℕ, zero, suc, ◌<◌, ◌≤◌, true, false, Option, List, [], ◌∷◌, ◌++◌, length, refl, sym, ap, subst, ◌∙◌, arith, append_assoc, length-append}
 use Rattle.std.specs.Prelude.{set}
-use Rattle.std.proofs.lemmas.Result.{IfOk-weaker}
 use Rattle.js_tree.specs.Plain as P
 use Rattle.js_tree.specs.Codes as trees
 use Rattle.js_tree.specs.Codes.{Code, Ordinary, OfMethod, Arrow}
@@ -14,7 +13,7 @@ use Rattle.js_code.specs.Part.{Part, ACode, AProperty, AnExpr, SomeParams, SomeS
 use Rattle.js_code.specs.Node.{Reader, function_of}
 use Rattle.js_code.specs.Code.{reader}
 use Rattle.js_code.specs.private.Push.{Compiling, Grows}
-use Rattle.js_code.specs.private.Compiled.{Pushed, built, AreCodes, more_codes, Adds, Compiled, an_ordinary, code_part, arrow_expression_part, arrow_block_part, CompilesExpr, CompilesFunction, CompilesParams, CompilesProperty, CompilesPropertyKey, CompilesStmts}
+use Rattle.js_code.specs.private.Compiled.{Noted, Reserved, Pushed, built, AreCodes, more_codes, Adds, Compiled, an_ordinary, code_part, arrow_expression_part, arrow_block_part, CompilesExpr, CompilesFunction, CompilesParams, CompilesProperty, CompilesPropertyKey, CompilesStmts}
 use Rattle.js_code.proofs.Reading.{grows_trans}
 use Rattle.js_code.proofs.Made.{adds_both, adds_on}
 
@@ -35,17 +34,6 @@ pub record CompilesArrow (old new : Compiling) (place : ℕ) (params : P.Params)
 set_after : (xs : List ℕ) (x y : ℕ) (ys : List ℕ) → set (xs ++ x ∷ ys) (length xs) y ≡ xs ++ y ∷ ys
 set_after [] x y ys = refl
 set_after (z ∷ zs) x y ys = ap (λ w. z ∷ w) (set_after zs x y ys)
-
--- a function's number is taken
-pub record Reserved (old new : Compiling) (number : ℕ) : Type 0 where
-  pub nodes : new.nodes ≡ old.nodes
-  pub numbered : number ≡ length old.functions
-  pub functions : new.functions ≡ old.functions ++ 0 ∷ []
-
--- the place of its code is told
-pub record Noted (old new : Compiling) (number place : ℕ) : Type 0 where
-  pub nodes : new.nodes ≡ old.nodes
-  pub functions : new.functions ≡ set old.functions number place
 
 -- what comes between the two adds its functions after it
 noted_adds : (s0 s1 s2 s3 : Compiling) (number place : ℕ) (code : Code) (cs : List Code) → Reserved s0 s1 number → Adds s1 s2 cs → Noted s2 s3 number place →
@@ -185,14 +173,13 @@ method_at s0 s1 s2 s3 s4 s5 s6 s7 number kp pa pb fp place old loc bloc key ps x
       };
     }
 
-pub method_made : (s7 : Compiling) {s0 s1 s2 s3 s4 s5 s6 : Compiling} {number kp pa pb fp : ℕ} {loc bloc : Option Loc} {key : P.PropertyKey} {ps : P.Params} {xs : P.Stmts} {e : P.Property} {E : Type 0} (r : Result ℕ E) →
+pub method_made : (s7 : Compiling) {s0 s1 s2 s3 s4 s5 s6 : Compiling} {number kp pa pb fp : ℕ} {loc bloc : Option Loc} {key : P.PropertyKey} {ps : P.Params} {xs : P.Stmts} {e : P.Property} {place : ℕ} →
     CompilesPropertyKey s1 s2 kp key → CompilesParams s2 s3 pa ps → CompilesStmts s3 s4 pb xs → Pushed s4 s5 fp (code_part true number pa bloc pb) →
-    IfOk r (λ place. Pushed s6 s7 place (built (node.Method loc kp fp))) → Reserved s0 s1 number → Noted s5 s6 number fp →
-    e ≡ P.Method loc key (P.MakeFunction 0 ps (P.MakeFunctionBody bloc xs)) → IfOk r (λ place. CompilesProperty s0 s7 place e)
-method_made s7 {s0 = s0} {s1 = s1} {s2 = s2} {s3 = s3} {s4 = s4} {s5 = s5} {s6 = s6} {number = number} {kp = kp} {pa = pa} {pb = pb} {fp = fp} {loc = loc} {bloc = bloc} {key = key} {ps = ps} {xs = xs} {e = e} r x y z p pushed h n is =
-    IfOk-weaker r (λ place. Pushed s6 s7 place (built (node.Method loc kp fp))) (λ place. CompilesProperty s0 s7 place e) (λ place q.
+    Pushed s6 s7 place (built (node.Method loc kp fp)) → Reserved s0 s1 number → Noted s5 s6 number fp →
+    e ≡ P.Method loc key (P.MakeFunction 0 ps (P.MakeFunctionBody bloc xs)) → CompilesProperty s0 s7 place e
+method_made s7 {s0 = s0} {s1 = s1} {s2 = s2} {s3 = s3} {s4 = s4} {s5 = s5} {s6 = s6} {number = number} {kp = kp} {pa = pa} {pb = pb} {fp = fp} {loc = loc} {bloc = bloc} {key = key} {ps = ps} {xs = xs} {e = e} {place = place} x y z p q h n is =
     let Q : P.Property → Type 0 = λ e. CompilesProperty s0 s7 place e in
-    subst Q (sym is) (method_at s0 s1 s2 s3 s4 s5 s6 s7 number kp pa pb fp place 0 loc bloc key ps xs h x y z p n q)) pushed
+    subst Q (sym is) (method_at s0 s1 s2 s3 s4 s5 s6 s7 number kp pa pb fp place 0 loc bloc key ps xs h x y z p n q)
 
 -- places stand on when a function's place is told
 pub on_noted : {old new : List Node} {place : ℕ} → new ≡ old → place < length old → place < length new

@@ -1,6 +1,5 @@
 -- The kinds of lists, and how each is compiled part by part.
-use Rattle.std.proofs.Common.{◌≡◌, ℕ, zero, suc, ◌+◌, ◌<◌, ◌≤◌, List, [], ◌∷◌, ◌++◌, length, drop, get_or, Result, IfOk, refl, sym, ap, subst, ◌∙◌, arith, add-one}
-use Rattle.std.proofs.lemmas.Result.{IfOk-weaker}
+use Rattle.std.proofs.Common.{◌≡◌, ℕ, zero, suc, ◌+◌, ◌<◌, ◌≤◌, List, [], ◌∷◌, ◌++◌, length, drop, get_or, refl, sym, ap, subst, ◌∙◌, arith, add-one}
 use Rattle.js_tree.specs.Plain as P
 use Rattle.js_tree.specs.Codes as codes
 use Rattle.js_tree.specs.Linked as linked
@@ -52,14 +51,14 @@ exprs_go_on xs {old = old} {now = now} {new = new} {places = places} {place = pl
     list_goes_on exprs_kind exprs_are old now new places place (linked.link_exprs Unmarked (plain_exprs xs)) (linked.link_expr Unmarked Alone (plain_expr x)) (linked.link_exprs Unmarked (plain_exprs (drop (i + 1) xs)))
     (subst Q (from_at xs i x l e) h) (c.compiled Alone)
 
-pub exprs_end : (new : Compiling) (xs : List Expr) {old now : Compiling} {places qs : List ℕ} {i : ℕ} {E : Type 0} (r : Result ℕ E) → length xs ≤ i →
-    Lists exprs_kind old now places (linked.link_exprs Unmarked (plain_exprs xs)) (linked.link_exprs Unmarked (plain_exprs (drop i xs))) → qs ≡ places → IfOk r (λ place. Chained now new list.Exprs qs place) →
-    IfOk r (λ place. CompilesExprs old new place (plain_exprs xs))
-exprs_end new xs {old = old} {now = now} {places = places} {i = i} r l h e pushed = let C : List ℕ → Type 0 = λ ps. IfOk r (λ place. Chained now new list.Exprs ps place) in IfOk-weaker r (λ place. Chained now new list.Exprs places place) (λ place. CompilesExprs old new place (plain_exprs xs)) (λ place c. record {
+pub exprs_end : (new : Compiling) (xs : List Expr) {old now : Compiling} {places qs : List ℕ} {i : ℕ} {place : ℕ} → length xs ≤ i →
+    Lists exprs_kind old now places (linked.link_exprs Unmarked (plain_exprs xs)) (linked.link_exprs Unmarked (plain_exprs (drop i xs))) → qs ≡ places → Chained now new list.Exprs qs place →
+    CompilesExprs old new place (plain_exprs xs)
+exprs_end new xs {old = old} {now = now} {places = places} {i = i} {place = place} l h e pushed = let C : List ℕ → Type 0 = λ ps. Chained now new list.Exprs ps place in let c = subst C e pushed in record {
   compiled =
       let Q : List Expr → Type 0 = λ ys. Lists exprs_kind old now places (linked.link_exprs Unmarked (plain_exprs xs)) (linked.link_exprs Unmarked (plain_exprs ys)) in
       list_ends exprs_kind exprs_are old now new places place (linked.link_exprs Unmarked (plain_exprs xs)) (subst Q (past_end xs i l) h) c;
-}) (subst C e pushed)
+}
 
 abbrev pub template_parts_kind : Kind P.TemplatePart P.TemplateParts
 template_parts_kind = record { put = ATemplatePart; puts = SomeTemplateParts; codes = codes.functions_template_part; all_codes = codes.functions_template_parts; more = P.more_template_part; none = P.no_template_part; kind = list.TemplateParts }
@@ -75,14 +74,14 @@ template_parts_go_on xs {old = old} {now = now} {new = new} {places = places} {p
     list_goes_on template_parts_kind template_parts_are old now new places place (linked.link_template_parts Unmarked (plain_template_parts xs)) (linked.link_template_part Unmarked (plain_template_part x)) (linked.link_template_parts Unmarked (plain_template_parts (drop (i + 1) xs)))
     (subst Q (from_at xs i x l e) h) c.compiled
 
-pub template_parts_end : (new : Compiling) (xs : List TemplatePart) {old now : Compiling} {places qs : List ℕ} {i : ℕ} {E : Type 0} (r : Result ℕ E) → length xs ≤ i →
-    Lists template_parts_kind old now places (linked.link_template_parts Unmarked (plain_template_parts xs)) (linked.link_template_parts Unmarked (plain_template_parts (drop i xs))) → qs ≡ places → IfOk r (λ place. Chained now new list.TemplateParts qs place) →
-    IfOk r (λ place. CompilesTemplateParts old new place (plain_template_parts xs))
-template_parts_end new xs {old = old} {now = now} {places = places} {i = i} r l h e pushed = let C : List ℕ → Type 0 = λ ps. IfOk r (λ place. Chained now new list.TemplateParts ps place) in IfOk-weaker r (λ place. Chained now new list.TemplateParts places place) (λ place. CompilesTemplateParts old new place (plain_template_parts xs)) (λ place c. record {
+pub template_parts_end : (new : Compiling) (xs : List TemplatePart) {old now : Compiling} {places qs : List ℕ} {i : ℕ} {place : ℕ} → length xs ≤ i →
+    Lists template_parts_kind old now places (linked.link_template_parts Unmarked (plain_template_parts xs)) (linked.link_template_parts Unmarked (plain_template_parts (drop i xs))) → qs ≡ places → Chained now new list.TemplateParts qs place →
+    CompilesTemplateParts old new place (plain_template_parts xs)
+template_parts_end new xs {old = old} {now = now} {places = places} {i = i} {place = place} l h e pushed = let C : List ℕ → Type 0 = λ ps. Chained now new list.TemplateParts ps place in let c = subst C e pushed in record {
   compiled =
       let Q : List TemplatePart → Type 0 = λ ys. Lists template_parts_kind old now places (linked.link_template_parts Unmarked (plain_template_parts xs)) (linked.link_template_parts Unmarked (plain_template_parts ys)) in
       list_ends template_parts_kind template_parts_are old now new places place (linked.link_template_parts Unmarked (plain_template_parts xs)) (subst Q (past_end xs i l) h) c;
-}) (subst C e pushed)
+}
 
 abbrev pub properties_kind : Kind P.Property P.Properties
 properties_kind = record { put = AProperty; puts = SomeProperties; codes = codes.functions_property; all_codes = codes.functions_properties; more = P.more_property; none = P.no_property; kind = list.Properties }
@@ -98,14 +97,14 @@ properties_go_on xs {old = old} {now = now} {new = new} {places = places} {place
     list_goes_on properties_kind properties_are old now new places place (linked.link_properties Unmarked (plain_properties xs)) (linked.link_property Unmarked (plain_property x)) (linked.link_properties Unmarked (plain_properties (drop (i + 1) xs)))
     (subst Q (from_at xs i x l e) h) c.compiled
 
-pub properties_end : (new : Compiling) (xs : List Property) {old now : Compiling} {places qs : List ℕ} {i : ℕ} {E : Type 0} (r : Result ℕ E) → length xs ≤ i →
-    Lists properties_kind old now places (linked.link_properties Unmarked (plain_properties xs)) (linked.link_properties Unmarked (plain_properties (drop i xs))) → qs ≡ places → IfOk r (λ place. Chained now new list.Properties qs place) →
-    IfOk r (λ place. CompilesProperties old new place (plain_properties xs))
-properties_end new xs {old = old} {now = now} {places = places} {i = i} r l h e pushed = let C : List ℕ → Type 0 = λ ps. IfOk r (λ place. Chained now new list.Properties ps place) in IfOk-weaker r (λ place. Chained now new list.Properties places place) (λ place. CompilesProperties old new place (plain_properties xs)) (λ place c. record {
+pub properties_end : (new : Compiling) (xs : List Property) {old now : Compiling} {places qs : List ℕ} {i : ℕ} {place : ℕ} → length xs ≤ i →
+    Lists properties_kind old now places (linked.link_properties Unmarked (plain_properties xs)) (linked.link_properties Unmarked (plain_properties (drop i xs))) → qs ≡ places → Chained now new list.Properties qs place →
+    CompilesProperties old new place (plain_properties xs)
+properties_end new xs {old = old} {now = now} {places = places} {i = i} {place = place} l h e pushed = let C : List ℕ → Type 0 = λ ps. Chained now new list.Properties ps place in let c = subst C e pushed in record {
   compiled =
       let Q : List Property → Type 0 = λ ys. Lists properties_kind old now places (linked.link_properties Unmarked (plain_properties xs)) (linked.link_properties Unmarked (plain_properties ys)) in
       list_ends properties_kind properties_are old now new places place (linked.link_properties Unmarked (plain_properties xs)) (subst Q (past_end xs i l) h) c;
-}) (subst C e pushed)
+}
 
 abbrev pub params_kind : Kind P.Param P.Params
 params_kind = record { put = AParam; puts = SomeParams; codes = codes.functions_param; all_codes = codes.functions_params; more = P.more_param; none = P.no_param; kind = list.Params }
@@ -121,14 +120,14 @@ params_go_on xs {old = old} {now = now} {new = new} {places = places} {place = p
     list_goes_on params_kind params_are old now new places place (linked.link_params Unmarked (plain_params xs)) (linked.link_param Unmarked (plain_param x)) (linked.link_params Unmarked (plain_params (drop (i + 1) xs)))
     (subst Q (from_at xs i x l e) h) c.compiled
 
-pub params_end : (new : Compiling) (xs : List Param) {old now : Compiling} {places qs : List ℕ} {i : ℕ} {E : Type 0} (r : Result ℕ E) → length xs ≤ i →
-    Lists params_kind old now places (linked.link_params Unmarked (plain_params xs)) (linked.link_params Unmarked (plain_params (drop i xs))) → qs ≡ places → IfOk r (λ place. Chained now new list.Params qs place) →
-    IfOk r (λ place. CompilesParams old new place (plain_params xs))
-params_end new xs {old = old} {now = now} {places = places} {i = i} r l h e pushed = let C : List ℕ → Type 0 = λ ps. IfOk r (λ place. Chained now new list.Params ps place) in IfOk-weaker r (λ place. Chained now new list.Params places place) (λ place. CompilesParams old new place (plain_params xs)) (λ place c. record {
+pub params_end : (new : Compiling) (xs : List Param) {old now : Compiling} {places qs : List ℕ} {i : ℕ} {place : ℕ} → length xs ≤ i →
+    Lists params_kind old now places (linked.link_params Unmarked (plain_params xs)) (linked.link_params Unmarked (plain_params (drop i xs))) → qs ≡ places → Chained now new list.Params qs place →
+    CompilesParams old new place (plain_params xs)
+params_end new xs {old = old} {now = now} {places = places} {i = i} {place = place} l h e pushed = let C : List ℕ → Type 0 = λ ps. Chained now new list.Params ps place in let c = subst C e pushed in record {
   compiled =
       let Q : List Param → Type 0 = λ ys. Lists params_kind old now places (linked.link_params Unmarked (plain_params xs)) (linked.link_params Unmarked (plain_params ys)) in
       list_ends params_kind params_are old now new places place (linked.link_params Unmarked (plain_params xs)) (subst Q (past_end xs i l) h) c;
-}) (subst C e pushed)
+}
 
 abbrev pub stmts_kind : Kind P.Stmt P.Stmts
 stmts_kind = record { put = AStmt; puts = SomeStmts; codes = codes.functions_stmt; all_codes = codes.functions_stmts; more = P.more_stmt; none = P.no_stmt; kind = list.Stmts }
@@ -144,14 +143,14 @@ stmts_go_on xs {old = old} {now = now} {new = new} {places = places} {place = pl
     list_goes_on stmts_kind stmts_are old now new places place (linked.link_stmts Unmarked (plain_stmts xs)) (linked.link_stmt Unmarked (plain_stmt x)) (linked.link_stmts Unmarked (plain_stmts (drop (i + 1) xs)))
     (subst Q (from_at xs i x l e) h) c.compiled
 
-pub stmts_end : (new : Compiling) (xs : List Stmt) {old now : Compiling} {places qs : List ℕ} {i : ℕ} {E : Type 0} (r : Result ℕ E) → length xs ≤ i →
-    Lists stmts_kind old now places (linked.link_stmts Unmarked (plain_stmts xs)) (linked.link_stmts Unmarked (plain_stmts (drop i xs))) → qs ≡ places → IfOk r (λ place. Chained now new list.Stmts qs place) →
-    IfOk r (λ place. CompilesStmts old new place (plain_stmts xs))
-stmts_end new xs {old = old} {now = now} {places = places} {i = i} r l h e pushed = let C : List ℕ → Type 0 = λ ps. IfOk r (λ place. Chained now new list.Stmts ps place) in IfOk-weaker r (λ place. Chained now new list.Stmts places place) (λ place. CompilesStmts old new place (plain_stmts xs)) (λ place c. record {
+pub stmts_end : (new : Compiling) (xs : List Stmt) {old now : Compiling} {places qs : List ℕ} {i : ℕ} {place : ℕ} → length xs ≤ i →
+    Lists stmts_kind old now places (linked.link_stmts Unmarked (plain_stmts xs)) (linked.link_stmts Unmarked (plain_stmts (drop i xs))) → qs ≡ places → Chained now new list.Stmts qs place →
+    CompilesStmts old new place (plain_stmts xs)
+stmts_end new xs {old = old} {now = now} {places = places} {i = i} {place = place} l h e pushed = let C : List ℕ → Type 0 = λ ps. Chained now new list.Stmts ps place in let c = subst C e pushed in record {
   compiled =
       let Q : List Stmt → Type 0 = λ ys. Lists stmts_kind old now places (linked.link_stmts Unmarked (plain_stmts xs)) (linked.link_stmts Unmarked (plain_stmts ys)) in
       list_ends stmts_kind stmts_are old now new places place (linked.link_stmts Unmarked (plain_stmts xs)) (subst Q (past_end xs i l) h) c;
-}) (subst C e pushed)
+}
 
 abbrev pub declarators_kind : Kind P.Declarator P.Declarators
 declarators_kind = record { put = ADeclarator; puts = SomeDeclarators; codes = codes.functions_declarator; all_codes = codes.functions_declarators; more = P.more_declarator; none = P.no_declarator; kind = list.Declarators }
@@ -167,14 +166,14 @@ declarators_go_on xs {old = old} {now = now} {new = new} {places = places} {plac
     list_goes_on declarators_kind declarators_are old now new places place (linked.link_declarators Unmarked (plain_declarators xs)) (linked.link_declarator Unmarked (plain_declarator x)) (linked.link_declarators Unmarked (plain_declarators (drop (i + 1) xs)))
     (subst Q (from_at xs i x l e) h) c.compiled
 
-pub declarators_end : (new : Compiling) (xs : List Declarator) {old now : Compiling} {places qs : List ℕ} {i : ℕ} {E : Type 0} (r : Result ℕ E) → length xs ≤ i →
-    Lists declarators_kind old now places (linked.link_declarators Unmarked (plain_declarators xs)) (linked.link_declarators Unmarked (plain_declarators (drop i xs))) → qs ≡ places → IfOk r (λ place. Chained now new list.Declarators qs place) →
-    IfOk r (λ place. CompilesDeclarators old new place (plain_declarators xs))
-declarators_end new xs {old = old} {now = now} {places = places} {i = i} r l h e pushed = let C : List ℕ → Type 0 = λ ps. IfOk r (λ place. Chained now new list.Declarators ps place) in IfOk-weaker r (λ place. Chained now new list.Declarators places place) (λ place. CompilesDeclarators old new place (plain_declarators xs)) (λ place c. record {
+pub declarators_end : (new : Compiling) (xs : List Declarator) {old now : Compiling} {places qs : List ℕ} {i : ℕ} {place : ℕ} → length xs ≤ i →
+    Lists declarators_kind old now places (linked.link_declarators Unmarked (plain_declarators xs)) (linked.link_declarators Unmarked (plain_declarators (drop i xs))) → qs ≡ places → Chained now new list.Declarators qs place →
+    CompilesDeclarators old new place (plain_declarators xs)
+declarators_end new xs {old = old} {now = now} {places = places} {i = i} {place = place} l h e pushed = let C : List ℕ → Type 0 = λ ps. Chained now new list.Declarators ps place in let c = subst C e pushed in record {
   compiled =
       let Q : List Declarator → Type 0 = λ ys. Lists declarators_kind old now places (linked.link_declarators Unmarked (plain_declarators xs)) (linked.link_declarators Unmarked (plain_declarators ys)) in
       list_ends declarators_kind declarators_are old now new places place (linked.link_declarators Unmarked (plain_declarators xs)) (subst Q (past_end xs i l) h) c;
-}) (subst C e pushed)
+}
 
 abbrev pub cases_kind : Kind P.Case P.Cases
 cases_kind = record { put = ACase; puts = SomeCases; codes = codes.functions_case; all_codes = codes.functions_cases; more = P.more_case; none = P.no_case; kind = list.Cases }
@@ -190,11 +189,11 @@ cases_go_on xs {old = old} {now = now} {new = new} {places = places} {place = pl
     list_goes_on cases_kind cases_are old now new places place (linked.link_cases Unmarked Uncounted 0 (plain_cases xs)) (linked.link_case Unmarked (plain_case x)) (linked.link_cases Unmarked Uncounted 0 (plain_cases (drop (i + 1) xs)))
     (subst Q (from_at xs i x l e) h) c.compiled
 
-pub cases_end : (new : Compiling) (xs : List Case) {old now : Compiling} {places qs : List ℕ} {i : ℕ} {E : Type 0} (r : Result ℕ E) → length xs ≤ i →
-    Lists cases_kind old now places (linked.link_cases Unmarked Uncounted 0 (plain_cases xs)) (linked.link_cases Unmarked Uncounted 0 (plain_cases (drop i xs))) → qs ≡ places → IfOk r (λ place. Chained now new list.Cases qs place) →
-    IfOk r (λ place. CompilesCases old new place (plain_cases xs))
-cases_end new xs {old = old} {now = now} {places = places} {i = i} r l h e pushed = let C : List ℕ → Type 0 = λ ps. IfOk r (λ place. Chained now new list.Cases ps place) in IfOk-weaker r (λ place. Chained now new list.Cases places place) (λ place. CompilesCases old new place (plain_cases xs)) (λ place c. record {
+pub cases_end : (new : Compiling) (xs : List Case) {old now : Compiling} {places qs : List ℕ} {i : ℕ} {place : ℕ} → length xs ≤ i →
+    Lists cases_kind old now places (linked.link_cases Unmarked Uncounted 0 (plain_cases xs)) (linked.link_cases Unmarked Uncounted 0 (plain_cases (drop i xs))) → qs ≡ places → Chained now new list.Cases qs place →
+    CompilesCases old new place (plain_cases xs)
+cases_end new xs {old = old} {now = now} {places = places} {i = i} {place = place} l h e pushed = let C : List ℕ → Type 0 = λ ps. Chained now new list.Cases ps place in let c = subst C e pushed in record {
   compiled =
       let Q : List Case → Type 0 = λ ys. Lists cases_kind old now places (linked.link_cases Unmarked Uncounted 0 (plain_cases xs)) (linked.link_cases Unmarked Uncounted 0 (plain_cases ys)) in
       list_ends cases_kind cases_are old now new places place (linked.link_cases Unmarked Uncounted 0 (plain_cases xs)) (subst Q (past_end xs i l) h) c;
-}) (subst C e pushed)
+}

@@ -2,6 +2,7 @@ pub mod Rules
 pub mod BoundNames
 pub mod Forms
 pub mod Functions
+pub mod Kept
 pub mod KindsOfLists
 pub mod Lists
 pub mod Made

@@ -3,14 +3,15 @@ use Rattle.std.proofs.Common.{◌≡◌, ℕ, zero, suc, ◌<◌, ◌≤◌, Lis
 use Rattle.js_tree.specs.Codes.{Code}
 use Rattle.js_tree.specs.Linked.{Numbers, Linked, kept, two}
 use Rattle.js_code.specs.declared.node.Node.{Node}
-use Rattle.js_code.specs.declared.node.Node.TheVariants.{More}
+use Rattle.js_code.specs.declared.node.Node.TheVariants.{End, More}
 use Rattle.js_code.specs.declared.node.ListKind.{ListKind}
 use Rattle.js_code.specs.Part.{Part, before, end_of}
 use Rattle.js_code.specs.Node.{Reader}
 use Rattle.js_code.specs.Code.{reader}
 use Rattle.js_code.specs.private.Push.{Compiling, Grows}
-use Rattle.js_code.specs.private.Compiled.{Pushed, built, Adds, Compiled, chained, AllBelow, Chained, Kind, all_before, codes_of, AreParts, no_parts, more_parts, Lists}
+use Rattle.js_code.specs.private.Compiled.{IfWhole, Kept, Pushed, built, Adds, Compiled, chained, AllBelow, Chained, Kind, all_before, codes_of, AreParts, no_parts, more_parts, Lists}
 use Rattle.js_code.proofs.Reading.{grows_refl, grows_trans}
+use Rattle.js_code.proofs.Kept.{kept_one}
 use Rattle.js_code.proofs.Made.{adds_none, adds_both, adds_on}
 
 -- Chains
@@ -57,6 +58,41 @@ first_placed old now places index g b low high =
 pub chained_whole : (part : Part) (t : Reader) (kind : ListKind) (places : List ℕ) (index : ℕ) → index ≤ 0 → part ≡ chained t kind (drop index places) → part ≡ chained t kind places
 chained_whole part t kind places zero l r = r
 chained_whole part t kind places (suc i) l r = absurd (omega arith)
+
+pub chain_begins : {old new : Compiling} {kind : ListKind} (places : List ℕ) {place : ℕ} → Kept old new (Pushed old new place (built (End kind))) → Kept old new (Chained old new kind (drop (length places) places) place)
+chain_begins {old = old} {kind = kind} places pushed = kept_one pushed (λ p. record {
+  grows = p.grows;
+  placed = p.placed;
+  read = p.read ∙ sym (chained_end (reader old.nodes) kind places);
+  functions = p.functions;
+})
+
+pub chain_below : {old now : Compiling} {kind : ListKind} (places : List ℕ) {index rest : ℕ} → IfWhole old (AllBelow (length old.nodes) places) → Kept old now (Chained old now kind (drop index places) rest) →
+    0 < index → index ≤ length places → IfWhole now ((get_or places (index - 1) 0 < length now.nodes) × (rest < length now.nodes))
+chain_below {old = old} {now = now} places {index = index} below k low high w = (
+  first_placed old now places index (k.kept w).grows (below (k.whole w)) low high,
+  (k.kept w).placed,
+)
+
+pub chain_goes_on : {old now new : Compiling} {kind : ListKind} (places : List ℕ) {index rest place : ℕ} → IfWhole old (AllBelow (length old.nodes) places) → Kept old now (Chained old now kind (drop index places) rest) →
+    0 < index → index ≤ length places → Kept now new (Pushed now new place (built (More kind (get_or places (index - 1) 0) rest))) → Kept old new (Chained old new kind (drop (index - 1) places) place)
+chain_goes_on {old = old} {now = now} {new = new} {kind = kind} places {index = index} {rest = rest} {place = place} below k low high pushed = record {
+  whole = λ w. k.whole (pushed.whole w);
+  kept = λ w. let h = k.kept (pushed.whole w) in let p = pushed.kept w in record {
+    grows = grows_trans old.nodes now.nodes new.nodes h.grows p.grows;
+    placed = p.placed;
+    read = chain_step old now new kind places index rest place h.grows (below (k.whole (pushed.whole w))) h.read low high p;
+    functions = p.functions ∙ h.functions;
+  };
+}
+
+pub chain_ends : {old now : Compiling} {kind : ListKind} (places : List ℕ) {index rest : ℕ} → index ≤ 0 → Kept old now (Chained old now kind (drop index places) rest) → Kept old now (Chained old now kind places rest)
+chain_ends {old = old} {now = now} {kind = kind} places {index = index} {rest = rest} low k = kept_one k (λ h. record {
+  grows = h.grows;
+  placed = h.placed;
+  read = chained_whole (reader now.nodes rest) (reader old.nodes) kind places index low h.read;
+  functions = h.functions;
+})
 
 -- Parts one after another
 
@@ -156,3 +192,11 @@ module _ {T L : Type 0} (kind : Kind T L) (is : IsKind kind) where
           subst Q (sym (ap kind.all_codes p.tree ∙ codes_all p.parts)) (adds_on old now new _ p.adds c.grows c.functions);
     };
   }
+
+-- a place that is held comes to the list
+pub held : {T L : Type 0} {kind : Kind T L} {old now new : Compiling} {after : List ℕ} {whole left : Numbers → Linked L} (places : List ℕ) (place : ℕ) → (new ≡ now) × (after ≡ places ++ place ∷ []) →
+    Lists kind old now (places ++ place ∷ []) whole left → Lists kind old new after whole left
+held {kind = kind} {old = old} {now = now} {after = after} {whole = whole} {left = left} places place h l =
+    let P : List ℕ → Type 0 = λ ps. Lists kind old now ps whole left in
+    let Q : Compiling → Type 0 = λ s. Lists kind old s after whole left in
+    subst Q (sym h.0) (subst P (sym h.1) l)

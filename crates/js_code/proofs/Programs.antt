@@ -19,7 +19,7 @@ use Rattle.js_code.specs.Code.{reader}
 use Rattle.js_code.specs.Scopes.{body_names, file_scope}
 use Rattle.js_code.specs.Program.{ProgramCode, file_stmts, IsFunction, ReadsFile, IsFile, no_file, a_file, IsCodeOf}
 use Rattle.js_code.specs.private.Push.{Compiling, Grows}
-use Rattle.js_code.specs.private.Compiled.{Stands, AreCodes, no_codes, more_codes, Adds, CompilesStmts, AreFiles, no_files, more_files, linked_source, CompiledFile, CompiledFiles, FilesSoFar, sources_from}
+use Rattle.js_code.specs.private.Compiled.{Kept, Stands, AreCodes, no_codes, more_codes, Adds, CompilesStmts, AreFiles, no_files, more_files, linked_source, CompiledFile, CompiledFiles, FilesSoFar, sources_from}
 use Rattle.js_code.proofs.Reading.{grows_refl, grows_trans}
 use Rattle.js_code.proofs.Made.{adds_none, adds_both}
 use Rattle.js_code.proofs.KindsOfLists.{from_at, past_end}
@@ -137,6 +137,10 @@ pub files_end : (files : List ProgramFile) {old now : Compiling} {made : List Fi
 files_end files {old = old} {now = now} {made = made} {index = index} {whole = whole} l h =
     let Q : List Source → Type 0 = λ ss. CompiledFiles old now made ss in
     subst Q (sym (h.is ∙ ap (λ ys. h.done ++ sources_from ys index (length now.functions)) (past_end files index l) ∙ append-nil h.done)) h.compiled
+
+-- a list that was compiled, where memory wasn't wanting
+pub finished : {old new : Compiling} {place given : ℕ} {xs : P.Stmts} → Kept old new (CompilesStmts old new place xs) → (given ≡ place) × (new.wanting ≡ false) → CompilesStmts old new given xs
+finished {old = old} {new = new} {xs = xs} k f = let Q : ℕ → Type 0 = λ place. CompilesStmts old new place xs in subst Q (sym f.0) (k.kept f.1)
 
 -- a node at its place, as the whole program's code is seen
 pub program_stands : {now : ProgramCode} {nodes : List Node} {functions : List ℕ} {files : List FileCode} {prelude place : ℕ} {node : Node} →

@@ -1,11 +1,11 @@
 -- A place reads as what its node is built of, and goes on so when there are more nodes.
-use Rattle.std.proofs.Common.{◌≡◌, ◌⊎◌, inl, inr, ℕ, zero, suc, ◌<◌, ◌≤◌, List, [], ◌∷◌, ◌++◌, length, slice_get, refl, sym, ap, subst, ◌∙◌, arith, append_assoc, length-append, append-nil}
+use Rattle.std.proofs.Common.{◌≡◌, Bool, false, ◌⊎◌, inl, inr, ℕ, zero, suc, ◌<◌, ◌≤◌, List, [], ◌∷◌, ◌++◌, length, slice_get, refl, sym, ap, subst, ◌∙◌, arith, append_assoc, length-append, append-nil}
 use Rattle.js_code.specs.declared.node.Node.{Node}
 use Rattle.js_code.specs.declared.node.Node.TheVariants.{Missing}
 use Rattle.js_code.specs.Node.{Reader, build, PartsBelow, ScopeHolds}
 use Rattle.js_code.specs.Code.{node_or, node_at, reader_to, reader, IsOrdered, ScopesHold, Extends}
 use Rattle.js_code.specs.private.Push.{Compiling, Grows}
-use Rattle.js_code.specs.private.Compiled.{Pushed, Stands, built}
+use Rattle.js_code.specs.private.Compiled.{IfWhole, Kept, Pushed, Stands, built}
 use Rattle.js_code.proofs.Same.{build_same, scope_same}
 
 -- lists with the same nodes up to n are read alike there, at any depths that are enough
@@ -142,22 +142,27 @@ pushed old new node place e f at o p = record {
 
 -- the code that is compiled, as its contracts see it
 
-pub stands_at : (now : Compiling) (inside : List Node) (functions : List ℕ) → record { nodes = inside; functions = functions } ≡ now → IsOrdered inside → ScopesHold inside →
+pub stands_at : (now : Compiling) (inside : List Node) (functions : List ℕ) (wanting : Bool) → record { nodes = inside; functions = functions; wanting = wanting } ≡ now → IsOrdered inside → ScopesHold inside →
     (place : ℕ) {nodes : List Node} {node : Node} → nodes ≡ inside → node ≡ node_at nodes place → Stands now.nodes place node
-stands_at now inside functions view o s place {node = node} is e =
+stands_at now inside functions wanting view o s place {node = node} is e =
     let Q : Compiling → Type 0 = λ now. Stands now.nodes place node in
     let R : Node → Type 0 = λ n. Stands inside place n in
     subst Q view (subst R (sym (e ∙ ap (λ xs. node_at xs place) is)) (record { read = part_is inside o place; below = o.each place; scope = s.each place }))
 
-pub push_holds : (now : Compiling) (inside : List Node) (functions : List ℕ) → record { nodes = inside; functions = functions } ≡ now → (new : List Node) (node : Node) → new ≡ inside ++ node ∷ [] →
-    IsOrdered inside → ScopesHold inside → PartsBelow (length now.nodes) node → ScopeHolds (reader now.nodes) node → IsOrdered new × ScopesHold new
-push_holds now inside functions view new node e o s p q =
-    let Q : Compiling → Type 0 = λ now. PartsBelow (length now.nodes) node → ScopeHolds (reader now.nodes) node → IsOrdered new × ScopesHold new in
+pub push_holds : (now : Compiling) (inside : List Node) (functions : List ℕ) (wanting : Bool) → record { nodes = inside; functions = functions; wanting = wanting } ≡ now → (new : List Node) (node : Node) → new ≡ inside ++ node ∷ [] →
+    wanting ≡ false → IsOrdered inside → ScopesHold inside → IfWhole now (PartsBelow (length now.nodes) node) → IfWhole now (ScopeHolds (reader now.nodes) node) → IsOrdered new × ScopesHold new
+push_holds now inside functions wanting view new node e w o s p q =
+    let Q : Compiling → Type 0 = λ now. IfWhole now (PartsBelow (length now.nodes) node) → IfWhole now (ScopeHolds (reader now.nodes) node) → IsOrdered new × ScopesHold new in
     subst Q view (λ p q. let R : List Node → Type 0 = λ xs. IsOrdered xs × ScopesHold xs in
-    subst R (sym e) (ordered_push inside node o p, scopes_push inside node o s p q)) p q
+    subst R (sym e) (ordered_push inside node o (p w), scopes_push inside node o s (p w) (q w))) p q
 
-pub push_done : (now : Compiling) (inside : List Node) (functions : List ℕ) → record { nodes = inside; functions = functions } ≡ now → (new : List Node) (node : Node) (place : ℕ) → new ≡ inside ++ node ∷ [] →
-    place ≡ length inside → IsOrdered inside → PartsBelow (length now.nodes) node → Pushed now (record { nodes = new; functions = functions }) place (built node)
-push_done now inside functions view new node place e at o p =
-    let Q : Compiling → Type 0 = λ now. PartsBelow (length now.nodes) node → Pushed now (record { nodes = new; functions = functions }) place (built node) in
-    subst Q view (λ p. pushed (record { nodes = inside; functions = functions }) (record { nodes = new; functions = functions }) node place e refl at o p) p
+pub push_kept : (now : Compiling) (inside : List Node) (functions : List ℕ) (wanting : Bool) → record { nodes = inside; functions = functions; wanting = wanting } ≡ now → (new : List Node) (node : Node) (place : ℕ) → new ≡ inside ++ node ∷ [] →
+    place ≡ length inside → IsOrdered inside → IfWhole now (PartsBelow (length now.nodes) node) →
+    Kept now (record { nodes = new; functions = functions; wanting = wanting }) (Pushed now (record { nodes = new; functions = functions; wanting = wanting }) place (built node))
+push_kept now inside functions wanting view new node place e at o p =
+    let after : Compiling = record { nodes = new; functions = functions; wanting = wanting } in
+    let Q : Compiling → Type 0 = λ now. IfWhole now (PartsBelow (length now.nodes) node) → Kept now after (Pushed now after place (built node)) in
+    subst Q view (λ p. record {
+      whole = λ w. w;
+      kept = λ w. pushed (record { nodes = inside; functions = functions; wanting = wanting }) after node place e refl at o (p w);
+    }) p

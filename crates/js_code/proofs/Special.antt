@@ -1,6 +1,5 @@
 -- The forms whose numbers aren't threaded as their parts are told.
-use Rattle.std.proofs.Common.{◌≡◌, ℕ, List, length, Option, Result, IfOk, refl, sym, ap, subst, ◌∙◌, arith}
-use Rattle.std.proofs.lemmas.Result.{IfOk-weaker}
+use Rattle.std.proofs.Common.{◌≡◌, ℕ, List, length, Option, refl, sym, ap, subst, ◌∙◌, arith}
 use Rattle.js_tree.specs.Plain as P
 use Rattle.js_tree.specs.Codes as codes
 use Rattle.js_tree.specs.Codes.{Code}
@@ -37,15 +36,15 @@ operand_compiled : (s0 s1 : Compiling) (place : ℕ) (chain : Chain) (l : Number
     Compiled AnExpr codes.functions_expr s0 s1 place (λ k. operand Unmarked chain (l k))
 operand_compiled s0 s1 place chain l c = compiled_as AnExpr codes.functions_expr s0 s1 place l _ (λ k. operand_same chain (l k)) c
 
-pub parenthesized_made : (s2 : Compiling) {s0 s1 : Compiling} {loc : Option Loc} {inner : ℕ} {inner' : P.Expr} {e : P.Expr} {E : Type 0} (r : Result ℕ E) → CompilesExpr s0 s1 inner inner' →
-    IfOk r (λ place. Pushed s1 s2 place (built (node.Parenthesized loc inner))) → e ≡ P.Parenthesized loc inner' → IfOk r (λ place. CompilesExpr s0 s2 place e)
-parenthesized_made s2 {s0 = s0} {s1 = s1} {loc = loc} {inner = inner} {inner' = inner'} {e = e} r h pushed is = IfOk-weaker r (λ place. Pushed s1 s2 place (built (node.Parenthesized loc inner))) (λ place. CompilesExpr s0 s2 place e) (λ place p. record {
+pub parenthesized_made : (s2 : Compiling) {s0 s1 : Compiling} {loc : Option Loc} {inner : ℕ} {inner' : P.Expr} {e : P.Expr} {place : ℕ} → CompilesExpr s0 s1 inner inner' →
+    Pushed s1 s2 place (built (node.Parenthesized loc inner)) → e ≡ P.Parenthesized loc inner' → CompilesExpr s0 s2 place e
+parenthesized_made s2 {s0 = s0} {s1 = s1} {loc = loc} {inner = inner} {inner' = inner'} {e = e} {place = place} h p is = record {
   compiled = λ chain.
       let Q : P.Expr → Type 0 = λ e. Compiled AnExpr codes.functions_expr s0 s2 place (linked.link_expr Unmarked chain e) in subst Q (sym is)
       (one AnExpr AnExpr codes.functions_expr codes.functions_expr s0 s1 s2 inner place (built (node.Parenthesized loc inner))
       (λ k. operand Unmarked chain (linked.link_expr Unmarked chain inner' k)) (operand_compiled s0 s1 inner chain (linked.link_expr Unmarked chain inner') (h.compiled chain)) p
       (P.Parenthesized loc) (λ t x r0. ap (λ p. AnExpr (P.Parenthesized loc (as_expr p))) r0) (λ k. refl));
-}) pushed
+}
 
 -- both operands in a chain
 logical_in : (s0 s1 s2 s3 : Compiling) (loc : Option Loc) (operator : LogicalOperator) (left right place : ℕ) (left' right' : P.Expr) (c d : Chain) →
@@ -66,14 +65,14 @@ logical_by s0 s1 s2 s3 loc operator left right place left' right' Alone h0 h1 p 
 logical_by s0 s1 s2 s3 loc operator left right place left' right' (Operand b path) h0 h1 p =
     logical_in s0 s1 s2 s3 loc operator left right place left' right' (Operand b path) (Operand b path) h0 h1 p
 
-pub logical_made : (s3 : Compiling) {s0 s1 s2 : Compiling} {loc : Option Loc} {operator : LogicalOperator} {left right : ℕ} {left' right' : P.Expr} {e : P.Expr} {E : Type 0} (r : Result ℕ E) →
+pub logical_made : (s3 : Compiling) {s0 s1 s2 : Compiling} {loc : Option Loc} {operator : LogicalOperator} {left right : ℕ} {left' right' : P.Expr} {e : P.Expr} {place : ℕ} →
     CompilesExpr s0 s1 left left' → CompilesExpr s1 s2 right right' →
-    IfOk r (λ place. Pushed s2 s3 place (built (node.Logical loc operator left right))) → e ≡ P.Logical loc operator left' right' → IfOk r (λ place. CompilesExpr s0 s3 place e)
-logical_made s3 {s0 = s0} {s1 = s1} {s2 = s2} {loc = loc} {operator = operator} {left = left} {right = right} {left' = left'} {right' = right'} {e = e} r h0 h1 pushed is = IfOk-weaker r (λ place. Pushed s2 s3 place (built (node.Logical loc operator left right))) (λ place. CompilesExpr s0 s3 place e) (λ place p. record {
+    Pushed s2 s3 place (built (node.Logical loc operator left right)) → e ≡ P.Logical loc operator left' right' → CompilesExpr s0 s3 place e
+logical_made s3 {s0 = s0} {s1 = s1} {s2 = s2} {loc = loc} {operator = operator} {left = left} {right = right} {left' = left'} {right' = right'} {e = e} {place = place} h0 h1 p is = record {
   compiled = λ chain.
       let Q : P.Expr → Type 0 = λ e. Compiled AnExpr codes.functions_expr s0 s3 place (linked.link_expr Unmarked chain e) in subst Q (sym is)
       (logical_by s0 s1 s2 s3 loc operator left right place left' right' chain h0 h1 p);
-}) pushed
+}
 
 -- Arrow functions
 
@@ -88,29 +87,29 @@ arrow_linked loc params body number chain k =
     let b = linked.link_concise_body Unmarked body ps.next in
     ap (λ x. kept (P.ArrowFunction loc k.code ps.tree x) b.next) (sym (body_same b.tree))
 
-pub arrow_function_made : (s2 : Compiling) {s0 s1 : Compiling} {loc : Option Loc} {function : ℕ} {params : P.Params} {body : P.ConciseBody} {e : P.Expr} {E : Type 0} (r : Result ℕ E) →
+pub arrow_function_made : (s2 : Compiling) {s0 s1 : Compiling} {loc : Option Loc} {function : ℕ} {params : P.Params} {body : P.ConciseBody} {e : P.Expr} {place : ℕ} →
     CompilesArrow s0 s1 function params body →
-    IfOk r (λ place. Pushed s1 s2 place (built (node.ArrowFunction loc function))) → e ≡ P.ArrowFunction loc 0 params body → IfOk r (λ place. CompilesExpr s0 s2 place e)
-arrow_function_made s2 {s0 = s0} {s1 = s1} {loc = loc} {function = function} {params = params} {body = body} {e = e} r h pushed is = IfOk-weaker r (λ place. Pushed s1 s2 place (built (node.ArrowFunction loc function))) (λ place. CompilesExpr s0 s2 place e) (λ place p. record {
+    Pushed s1 s2 place (built (node.ArrowFunction loc function)) → e ≡ P.ArrowFunction loc 0 params body → CompilesExpr s0 s2 place e
+arrow_function_made s2 {s0 = s0} {s1 = s1} {loc = loc} {function = function} {params = params} {body = body} {e = e} {place = place} h p is = record {
   compiled = λ chain.
       let Q : P.Expr → Type 0 = λ e. Compiled AnExpr codes.functions_expr s0 s2 place (linked.link_expr Unmarked chain e) in subst Q (sym is)
       (compiled_as AnExpr codes.functions_expr s0 s2 place (λ k. made (arrow_of loc) (link_arrow params body k)) _ (arrow_linked loc params body 0 chain)
       (one ACode AnExpr code_functions codes.functions_expr s0 s1 s2 function place (built (node.ArrowFunction loc function)) (link_arrow params body) h.compiled p
       (arrow_of loc) (λ t c r0. ap (λ p. AnExpr (arrow_of loc (as_code p))) r0) (λ k. refl)));
-}) pushed
+}
 
 -- Labels: nothing is entered
 
-pub labelled_made : (s2 : Compiling) {s0 s1 : Compiling} {loc : Option Loc} {label label' : Identifier} {body : ℕ} {body' : P.Stmt} {e : P.Stmt} {E : Type 0} (r : Result ℕ E) → CompilesStmt s0 s1 body body' →
-    label ≡ label' → IfOk r (λ place. Pushed s1 s2 place (built (node.Labelled loc label body))) → e ≡ P.Labelled loc label' body' → IfOk r (λ place. CompilesStmt s0 s2 place e)
-labelled_made s2 {s0 = s0} {s1 = s1} {loc = loc} {label = label} {label' = label'} {body = body} {body' = body'} {e = e} r h same pushed is = IfOk-weaker r (λ place. Pushed s1 s2 place (built (node.Labelled loc label body))) (λ place. CompilesStmt s0 s2 place e) (λ place p. record {
+pub labelled_made : (s2 : Compiling) {s0 s1 : Compiling} {loc : Option Loc} {label label' : Identifier} {body : ℕ} {body' : P.Stmt} {e : P.Stmt} {place : ℕ} → CompilesStmt s0 s1 body body' →
+    label ≡ label' → Pushed s1 s2 place (built (node.Labelled loc label body)) → e ≡ P.Labelled loc label' body' → CompilesStmt s0 s2 place e
+labelled_made s2 {s0 = s0} {s1 = s1} {loc = loc} {label = label} {label' = label'} {body = body} {body' = body'} {e = e} {place = place} h same p is = record {
   compiled =
       let Q : P.Stmt → Type 0 = λ e. Compiled AStmt codes.functions_stmt s0 s2 place (linked.link_stmt Unmarked e) in subst Q (sym is)
       (compiled_as AStmt codes.functions_stmt s0 s2 place (λ k. made (P.Labelled loc label') (linked.link_stmt Unmarked body' k)) _
       (λ k. ap (λ x. kept x (linked.link_stmt Unmarked body' k).next) (sym (labelled_is loc label' body' k)))
       (one AStmt AStmt codes.functions_stmt codes.functions_stmt s0 s1 s2 body place (built (node.Labelled loc label body)) (linked.link_stmt Unmarked body') h.compiled p
       (P.Labelled loc label') (λ t x r0. ap (λ p. AStmt (P.Labelled loc label (as_stmt p))) r0 ∙ ap (λ l. AStmt (P.Labelled loc l x)) same) (λ k. refl)));
-}) pushed
+}
 
 -- Scopes: a node before a list reads as the list, and is a scope
 
@@ -126,46 +125,45 @@ module _ {T : Type 0} (puta put : T → Part) (coded : T → List Code) (s0 s1 s
     };
   }
 
-pub scope_made : (s2 : Compiling) {s0 s1 : Compiling} {list : ℕ} {xs : P.Stmts} {E : Type 0} (r : Result ℕ E) → CompilesStmts s0 s1 list xs →
-    IfOk r (λ place. Pushed s1 s2 place (λ t. AScope (as_stmts (t list)))) → IfOk r (λ place. CompilesScope s0 s2 place xs)
-scope_made s2 {s0 = s0} {s1 = s1} {list = list} {xs = xs} r c pushed = IfOk-weaker r (λ place. Pushed s1 s2 place (λ t. AScope (as_stmts (t list)))) (λ place. CompilesScope s0 s2 place xs) (λ place p. record {
+pub scope_made : (s2 : Compiling) {s0 s1 : Compiling} {list : ℕ} {xs : P.Stmts} {place : ℕ} → CompilesStmts s0 s1 list xs →
+    Pushed s1 s2 place (λ t. AScope (as_stmts (t list))) → CompilesScope s0 s2 place xs
+scope_made s2 {s0 = s0} {s1 = s1} {list = list} {xs = xs} {place = place} c p = record {
   compiled =
       wrapped SomeStmts AScope codes.functions_stmts s0 s1 s2 list place (linked.link_stmts Unmarked xs) (λ q. AScope (as_stmts q)) (λ x. refl) c.compiled p;
-}) pushed
+}
 
-pub case_scope_made : (s2 : Compiling) {s0 s1 : Compiling} {list : ℕ} {xs : P.Cases} {E : Type 0} (r : Result ℕ E) → CompilesCases s0 s1 list xs →
-    IfOk r (λ place. Pushed s1 s2 place (λ t. ACaseScope (as_cases (t list)))) → IfOk r (λ place. CompilesCaseScope s0 s2 place xs)
-case_scope_made s2 {s0 = s0} {s1 = s1} {list = list} {xs = xs} r c pushed = IfOk-weaker r (λ place. Pushed s1 s2 place (λ t. ACaseScope (as_cases (t list)))) (λ place. CompilesCaseScope s0 s2 place xs) (λ place p. record {
+pub case_scope_made : (s2 : Compiling) {s0 s1 : Compiling} {list : ℕ} {xs : P.Cases} {place : ℕ} → CompilesCases s0 s1 list xs →
+    Pushed s1 s2 place (λ t. ACaseScope (as_cases (t list))) → CompilesCaseScope s0 s2 place xs
+case_scope_made s2 {s0 = s0} {s1 = s1} {list = list} {xs = xs} {place = place} c p = record {
   compiled =
       wrapped SomeCases ACaseScope codes.functions_cases s0 s1 s2 list place (linked.link_cases Unmarked linked.Uncounted 0 xs) (λ q. ACaseScope (as_cases q)) (λ x. refl) c.compiled p;
-}) pushed
+}
 
-pub init_declaration_made : (s2 : Compiling) {s0 s1 : Compiling} {list : ℕ} {kind : VariableKind} {ds : P.Declarators} {e : P.ForInit} {E : Type 0} (r : Result ℕ E) → CompilesDeclarators s0 s1 list ds →
-    IfOk r (λ place. Pushed s1 s2 place (λ t. AForInit (P.InitDeclaration kind (as_declarators (t list))))) → e ≡ P.InitDeclaration kind ds → IfOk r (λ place. CompilesForInit s0 s2 place e)
-init_declaration_made s2 {s0 = s0} {s1 = s1} {list = list} {kind = kind} {ds = ds} {e = e} r c pushed is = IfOk-weaker r (λ place. Pushed s1 s2 place (λ t. AForInit (P.InitDeclaration kind (as_declarators (t list))))) (λ place. CompilesForInit s0 s2 place e) (λ place p.
-    let Q : P.ForInit → Type 0 = λ e. CompilesForInit s0 s2 place e in subst Q (sym is) (record {
-      compiled =
-          (one SomeDeclarators AForInit codes.functions_declarators codes.functions_for_init s0 s1 s2 list place (λ t. AForInit (P.InitDeclaration kind (as_declarators (t list)))) (linked.link_declarators Unmarked ds) c.compiled p
-          (P.InitDeclaration kind) (λ t x r0. ap (λ q. AForInit (P.InitDeclaration kind (as_declarators q))) r0) (λ k. refl));
-    })) pushed
+pub init_declaration_made : (s2 : Compiling) {s0 s1 : Compiling} {list : ℕ} {kind : VariableKind} {ds : P.Declarators} {e : P.ForInit} {place : ℕ} → CompilesDeclarators s0 s1 list ds →
+    Pushed s1 s2 place (λ t. AForInit (P.InitDeclaration kind (as_declarators (t list)))) → e ≡ P.InitDeclaration kind ds → CompilesForInit s0 s2 place e
+init_declaration_made s2 {s0 = s0} {s1 = s1} {list = list} {kind = kind} {ds = ds} {e = e} {place = place} c p is = let Q : P.ForInit → Type 0 = λ e. CompilesForInit s0 s2 place e in subst Q (sym is) (record {
+  compiled =
+      (one SomeDeclarators AForInit codes.functions_declarators codes.functions_for_init s0 s1 s2 list place (λ t. AForInit (P.InitDeclaration kind (as_declarators (t list)))) (linked.link_declarators Unmarked ds) c.compiled p
+      (P.InitDeclaration kind) (λ t x r0. ap (λ q. AForInit (P.InitDeclaration kind (as_declarators q))) r0) (λ k. refl));
+})
 
 -- Parts that may be missing
 
-pub no_expr_made : (s0 s1 : Compiling) {e : P.MaybeExpr} {E : Type 0} (r : Result ℕ E) → IfOk r (λ place. Pushed s0 s1 place (built node.Missing)) → e ≡ P.none_expr → IfOk r (λ place. CompilesExprIf s0 s1 place e)
-no_expr_made s0 s1 {e = e} r pushed is = IfOk-weaker r (λ place. Pushed s0 s1 place (built node.Missing)) (λ place. CompilesExprIf s0 s1 place e) (λ place p. let Q : P.MaybeExpr → Type 0 = λ e. CompilesExprIf s0 s1 place e in
-    subst Q (sym is) (record { compiled = leaf expr_or codes.functions_expr_if s0 s1 place (built node.Missing) p P.none_expr (λ t. refl) refl })) pushed
+pub no_expr_made : (s0 s1 : Compiling) {e : P.MaybeExpr} {place : ℕ} → Pushed s0 s1 place (built node.Missing) → e ≡ P.none_expr → CompilesExprIf s0 s1 place e
+no_expr_made s0 s1 {e = e} {place = place} p is = let Q : P.MaybeExpr → Type 0 = λ e. CompilesExprIf s0 s1 place e in
+    subst Q (sym is) (record { compiled = leaf expr_or codes.functions_expr_if s0 s1 place (built node.Missing) p P.none_expr (λ t. refl) refl })
 
-pub some_expr_made : (s0 s1 : Compiling) {e : P.MaybeExpr} {x : P.Expr} {E : Type 0} (r : Result ℕ E) → IfOk r (λ place. CompilesExpr s0 s1 place x) → e ≡ P.some_expr x → IfOk r (λ place. CompilesExprIf s0 s1 place e)
-some_expr_made s0 s1 {e = e} {x = x} r h is = IfOk-weaker r (λ place. CompilesExpr s0 s1 place x) (λ place. CompilesExprIf s0 s1 place e) (λ place c. let Q : P.MaybeExpr → Type 0 = λ e. CompilesExprIf s0 s1 place e in
-    subst Q (sym is) (record { compiled = record { grows = (c.compiled Alone).grows; placed = (c.compiled Alone).placed; done = λ k first. let d = (c.compiled Alone).done k first in record { read = d.read; next = d.next; adds = d.adds } } })) h
+pub some_expr_made : (s0 s1 : Compiling) {e : P.MaybeExpr} {x : P.Expr} {place : ℕ} → CompilesExpr s0 s1 place x → e ≡ P.some_expr x → CompilesExprIf s0 s1 place e
+some_expr_made s0 s1 {e = e} {x = x} {place = place} c is = let Q : P.MaybeExpr → Type 0 = λ e. CompilesExprIf s0 s1 place e in
+    subst Q (sym is) (record { compiled = record { grows = (c.compiled Alone).grows; placed = (c.compiled Alone).placed; done = λ k first. let d = (c.compiled Alone).done k first in record { read = d.read; next = d.next; adds = d.adds } } })
 
-pub no_stmt_made : (s0 s1 : Compiling) {e : P.MaybeStmt} {E : Type 0} (r : Result ℕ E) → IfOk r (λ place. Pushed s0 s1 place (built node.Missing)) → e ≡ P.none_stmt → IfOk r (λ place. CompilesStmtIf s0 s1 place e)
-no_stmt_made s0 s1 {e = e} r pushed is = IfOk-weaker r (λ place. Pushed s0 s1 place (built node.Missing)) (λ place. CompilesStmtIf s0 s1 place e) (λ place p. let Q : P.MaybeStmt → Type 0 = λ e. CompilesStmtIf s0 s1 place e in
-    subst Q (sym is) (record { compiled = leaf stmt_or codes.functions_stmt_if s0 s1 place (built node.Missing) p P.none_stmt (λ t. refl) refl })) pushed
+pub no_stmt_made : (s0 s1 : Compiling) {e : P.MaybeStmt} {place : ℕ} → Pushed s0 s1 place (built node.Missing) → e ≡ P.none_stmt → CompilesStmtIf s0 s1 place e
+no_stmt_made s0 s1 {e = e} {place = place} p is = let Q : P.MaybeStmt → Type 0 = λ e. CompilesStmtIf s0 s1 place e in
+    subst Q (sym is) (record { compiled = leaf stmt_or codes.functions_stmt_if s0 s1 place (built node.Missing) p P.none_stmt (λ t. refl) refl })
 
-pub some_stmt_made : (s0 s1 : Compiling) {e : P.MaybeStmt} {x : P.Stmt} {E : Type 0} (r : Result ℕ E) → IfOk r (λ place. CompilesStmt s0 s1 place x) → e ≡ P.some_stmt x → IfOk r (λ place. CompilesStmtIf s0 s1 place e)
-some_stmt_made s0 s1 {e = e} {x = x} r h is = IfOk-weaker r (λ place. CompilesStmt s0 s1 place x) (λ place. CompilesStmtIf s0 s1 place e) (λ place c. let Q : P.MaybeStmt → Type 0 = λ e. CompilesStmtIf s0 s1 place e in
-    subst Q (sym is) (record { compiled = record { grows = c.compiled.grows; placed = c.compiled.placed; done = λ k first. let d = c.compiled.done k first in record { read = d.read; next = d.next; adds = d.adds } } })) h
+pub some_stmt_made : (s0 s1 : Compiling) {e : P.MaybeStmt} {x : P.Stmt} {place : ℕ} → CompilesStmt s0 s1 place x → e ≡ P.some_stmt x → CompilesStmtIf s0 s1 place e
+some_stmt_made s0 s1 {e = e} {x = x} {place = place} c is = let Q : P.MaybeStmt → Type 0 = λ e. CompilesStmtIf s0 s1 place e in
+    subst Q (sym is) (record { compiled = record { grows = c.compiled.grows; placed = c.compiled.placed; done = λ k first. let d = c.compiled.done k first in record { read = d.read; next = d.next; adds = d.adds } } })
 
 -- What is compiled is read with its numbers
 

@@ -1,13 +1,13 @@
 -- What is told of a scope, by the tree and by the functions that are found, is what its node has to tell.
 use Rattle.std.proofs.lemmas.Bool.{ne_eqb}
-use Rattle.std.proofs.Common.{arith, ◌≡◌, ◌==◌, ◌+◌, ◌≤◌, ℕ, suc, Bool, not, cond, ◌||◌, List, [], ◌∷◌, ◌++◌, drop, length, map, refl, sym, ap, ◌∙◌}
+use Rattle.std.proofs.Common.{arith, ◌≡◌, ◌==◌, ◌+◌, ◌<◌, ◌≤◌, ℕ, suc, Bool, true, false, not, cond, ◌||◌, List, [], ◌∷◌, ◌++◌, drop, length, map, get_or, refl, sym, ap, ◌∙◌}
 use Rattle.js_tree.specs.Plain as P
 use Rattle.js_tree.specs.Linked.{Unmarked, Numbers, link_params, link_stmts}
 use Rattle.js_terms.specs.declared.operators.VariableKind.{VariableKind}
 use Rattle.js_terms.specs.declared.operators.VariableKind.TheVariants as variable
 use Rattle.js_tree.specs.declared.tree.Declarator.{Declarator}
 use Rattle.js_tree.specs.declared.tree.Param.{Param}
-use Rattle.js_tree.specs.Tree.{plain_declarators, plain_params}
+use Rattle.js_tree.specs.Tree.{plain_declarators, plain_param, plain_params}
 use Rattle.js_value.specs.State.{Binding}
 use Rattle.js_value.specs.Realm.{undefined}
 use Rattle.js_meaning.specs.Scopes.{Hoisted, bound_names, cases_stmts, expected_arguments, function_stmts, has_defaults, is_fresh, lexical_names, lexical_stmts, names_of, once, param_names, variable_of}
@@ -20,7 +20,7 @@ use Rattle.js_code.specs.Scopes.{block_names, body_names, code_names, told_befor
 use Rattle.js_code.specs.Code.{reader}
 use Rattle.js_code.specs.private.Compiled.{ReadsCases, ReadsDeclarators, ReadsParams, ReadsStmts}
 use Rattle.js_code.specs.private.Seen.{defaulted}
-use Rattle.js_code.proofs.KindsOfLists.{past_end}
+use Rattle.js_code.proofs.KindsOfLists.{from_at, past_end}
 use Rattle.js_code.proofs.SameNames.{bound_same, defaults_same, expected_same, fresh_same, lexical_cases_same, lexical_same, params_same, var_names_same}
 
 -- Blocks
@@ -112,6 +112,40 @@ defaults_more (P.MakeParam loc pattern (P.some_expr e)) xs = refl
 pub expected_more : (x : P.Param) (xs : P.Params) → expected_arguments (P.more_param x xs) ≡ cond (defaulted x) 0 (suc (expected_arguments xs))
 expected_more (P.MakeParam loc pattern P.none_expr) xs = refl
 expected_more (P.MakeParam loc pattern (P.some_expr e)) xs = refl
+
+-- the parameters from one on
+defaults_from : (ps : List Param) (i : ℕ) (x : Param) → i < length ps → x ≡ get_or ps i x → has_defaults (plain_params (drop i ps)) ≡ (defaulted (plain_param x) || has_defaults (plain_params (drop (i + 1) ps)))
+defaults_from ps i x l e = ap (λ xs. has_defaults (plain_params xs)) (from_at ps i x l e) ∙ defaults_more (plain_param x) (plain_params (drop (i + 1) ps))
+
+pub defaults_on : (ps : List Param) {i : ℕ} {x : Param} → i < length ps → x ≡ get_or ps i x → false ≡ defaulted (plain_param x) → has_defaults (plain_params (drop i ps)) ≡ has_defaults (plain_params ps) →
+    has_defaults (plain_params (drop (i + 1) ps)) ≡ has_defaults (plain_params ps)
+defaults_on ps {i = i} {x = x} l e none h = ap (λ b. b || has_defaults (plain_params (drop (i + 1) ps))) none ∙ sym (defaults_from ps i x l e) ∙ h
+
+pub defaults_at : (ps : List Param) {i : ℕ} {x : Param} → i < length ps → x ≡ get_or ps i x → true ≡ defaulted (plain_param x) → has_defaults (plain_params (drop i ps)) ≡ has_defaults (plain_params ps) →
+    true ≡ has_defaults (plain_params ps)
+defaults_at ps {i = i} {x = x} l e some h = ap (λ b. b || has_defaults (plain_params (drop (i + 1) ps))) some ∙ sym (defaults_from ps i x l e) ∙ h
+
+pub defaults_end : (ps : List Param) {i : ℕ} → length ps ≤ i → has_defaults (plain_params (drop i ps)) ≡ has_defaults (plain_params ps) → false ≡ has_defaults (plain_params ps)
+defaults_end ps {i = i} l h = sym (ap (λ xs. has_defaults (plain_params xs)) (past_end ps i l)) ∙ h
+
+expected_from : (ps : List Param) (i : ℕ) (x : Param) → i < length ps → x ≡ get_or ps i x → expected_arguments (plain_params (drop i ps)) ≡ cond (defaulted (plain_param x)) 0 (suc (expected_arguments (plain_params (drop (i + 1) ps))))
+expected_from ps i x l e = ap (λ xs. expected_arguments (plain_params xs)) (from_at ps i x l e) ∙ expected_more (plain_param x) (plain_params (drop (i + 1) ps))
+
+pub expected_on : (ps : List Param) {i : ℕ} {x : Param} → i < length ps → x ≡ get_or ps i x → false ≡ defaulted (plain_param x) →
+    i + expected_arguments (plain_params (drop i ps)) ≡ expected_arguments (plain_params ps) → i + 1 + expected_arguments (plain_params (drop (i + 1) ps)) ≡ expected_arguments (plain_params ps)
+expected_on ps {i = i} {x = x} l e none h =
+    let q : suc (expected_arguments (plain_params (drop (i + 1) ps))) ≡ expected_arguments (plain_params (drop i ps)) =
+    ap (λ b. cond b 0 (suc (expected_arguments (plain_params (drop (i + 1) ps))))) none ∙ sym (expected_from ps i x l e)
+    in
+    omega (arith, q, h)
+
+pub expected_at : (ps : List Param) {i : ℕ} {x : Param} → i < length ps → x ≡ get_or ps i x → true ≡ defaulted (plain_param x) →
+    i + expected_arguments (plain_params (drop i ps)) ≡ expected_arguments (plain_params ps) → i ≡ expected_arguments (plain_params ps)
+expected_at ps {i = i} {x = x} l e some h =
+    let q : 0 ≡ expected_arguments (plain_params (drop i ps)) =
+    ap (λ b. cond b 0 (suc (expected_arguments (plain_params (drop (i + 1) ps))))) some ∙ sym (expected_from ps i x l e)
+    in
+    omega (arith, q, h)
 
 -- no parameter has a default
 pub expected_end : (ps : List Param) (i : ℕ) → length ps ≤ i → i ≤ length ps → i + expected_arguments (plain_params (drop i ps)) ≡ expected_arguments (plain_params ps) →

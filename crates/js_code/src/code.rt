@@ -65,7 +65,8 @@ impl Code {
         ensures { IfOk result (λ code. IsCodeOf (linked (uncounted (sources_of program.now))) code) }
     {
         let mut code = begin(alloc);
-        let prelude = stmts(alloc, program.prelude.file().body.as_slice(), &mut code)?;
+        let list = stmts(alloc, program.prelude.file().body.as_slice(), &mut code);
+        let prelude = code.finish(list)?;
         let files = compile_files(alloc, program.files.as_slice(), &mut code)?;
         Ok(Code {
             code,
@@ -138,7 +139,8 @@ fn compile_file(alloc: Global, file: &ProgramFile, code: &mut Compiling) -> Resu
     ensures { IfOk result (λ made. CompiledFile code.old code.new made (uncounted_source (source_of file.now))) }
 {
     let body = file.tree.file().body.as_slice();
-    let statements = stmts(alloc, body, code)?;
+    let list = stmts(alloc, body, code);
+    let statements = code.finish(list)?;
     let functions = hoisted(alloc, code, statements)?;
     let names = file_names(alloc)?;
     let scope = body_scope(alloc, false, names, body, functions)?;

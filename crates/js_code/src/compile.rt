@@ -1,11 +1,10 @@
 // Nodes are put at the end for a tree, its parts before it, in the order of the text.
 
-ghost use Rattle.std.specs.Prelude.{IfOk};
 ghost use Rattle.js_tree.specs.Tree.{plain_case, plain_cases, plain_catch, plain_declarator, plain_declarators, plain_expr, plain_expr_if, plain_exprs, plain_for_init, plain_for_target, plain_function, plain_param, plain_params, plain_properties, plain_property, plain_property_key, plain_stmt, plain_stmt_if, plain_stmts, plain_template_part, plain_template_parts};
-ghost use Rattle.js_code.specs.private.Compiled.{CompilesCase, CompilesCaseScope, CompilesCases, CompilesCatch, CompilesDeclarator, CompilesDeclarators, CompilesExpr, CompilesExprIf, CompilesExprs, CompilesForInit, CompilesForTarget, CompilesFunction, CompilesParam, CompilesParams, CompilesProperties, CompilesProperty, CompilesPropertyKey, CompilesScope, CompilesStmt, CompilesStmtIf, CompilesStmts, CompilesTemplatePart, CompilesTemplateParts};
+ghost use Rattle.js_code.specs.private.Compiled.{CompilesCase, CompilesCaseScope, CompilesCases, CompilesCatch, CompilesDeclarator, CompilesDeclarators, CompilesExpr, CompilesExprIf, CompilesExprs, CompilesForInit, CompilesForTarget, CompilesFunction, CompilesParam, CompilesParams, CompilesProperties, CompilesProperty, CompilesPropertyKey, CompilesScope, CompilesStmt, CompilesStmtIf, CompilesStmts, CompilesTemplatePart, CompilesTemplateParts, Kept};
 
 use crate::compiling::{
-    Compiling, bound_name, chain, copied, note, push, reserve, shared, shared_if,
+    Compiling, bound_name, chain, copied, hold, lack, note, push, reserve, shared, shared_if,
 };
 use crate::declare::{
     Parts, put_arrow_block, put_arrow_expression, put_case_scope, put_function, put_init, put_scope,
@@ -13,7 +12,7 @@ use crate::declare::{
 use crate::identifier::SharedIdentifier;
 use crate::literal::{Numeral, StringValue, Word};
 use crate::node::{ListKind, Node};
-use items::{Boxed, Items, Memory};
+use items::{Boxed, Items};
 use js_tree::{
     Case, Catch, ConciseBody, Declarator, Expr, ExprNode, ForInit, ForTarget, Function, Param,
     Property, PropertyKey, PropertyNode, Stmt, StmtNode, TemplatePart,
@@ -22,37 +21,45 @@ use std::alloc::Global;
 
 /// An expression.
 #[cycle(compile)]
-fn expr(alloc: Global, expr: &Expr, code: &mut Compiling) -> Result<usize, Memory>
-    ensures { IfOk result (λ place. CompilesExpr code.old code.new place (plain_expr expr.now)) }
+fn expr(alloc: Global, expr: &Expr, code: &mut Compiling) -> usize
+    ensures { Kept code.old code.new (CompilesExpr code.old code.new result (plain_expr expr.now)) }
 {
     let loc = expr.loc;
     match &expr.node {
         ExprNode::IdentifierReference(name) => {
-            let name = shared(alloc, name)?;
+            let Ok(name) = shared(alloc, name) else {
+                return lack(code);
+            };
             push(code, Node::IdentifierReference { loc, name })
         }
         ExprNode::This => push(code, Node::This { loc }),
         ExprNode::NullLiteral => push(code, Node::NullLiteral { loc }),
         ExprNode::BooleanLiteral(value) => push(code, Node::BooleanLiteral { loc, value: *value }),
         ExprNode::NumericLiteral(spelling) => {
-            let numeral = Numeral::new(alloc, spelling.as_str())?;
+            let Ok(numeral) = Numeral::new(alloc, spelling.as_str()) else {
+                return lack(code);
+            };
             push(code, Node::NumericLiteral { loc, numeral })
         }
         ExprNode::StringLiteral(string) => {
-            let literal = StringValue::new(alloc, string)?;
+            let Ok(literal) = StringValue::new(alloc, string) else {
+                return lack(code);
+            };
             push(code, Node::StringLiteral { loc, literal })
         }
         ExprNode::ArrayLiteral(items) => {
-            let items = exprs(alloc, items.as_slice(), code)?;
+            let items = exprs(alloc, items.as_slice(), code);
             push(code, Node::ArrayLiteral { loc, items })
         }
         ExprNode::ObjectLiteral(properties) => {
-            let properties = self::properties(alloc, properties.as_slice(), code)?;
+            let properties = self::properties(alloc, properties.as_slice(), code);
             push(code, Node::ObjectLiteral { loc, properties })
         }
         ExprNode::FunctionExpression(name, function) => {
-            let function = self::function(alloc, function.get(), code)?;
-            let name = shared_if(alloc, name)?;
+            let function = self::function(alloc, function.get(), code);
+            let Ok(name) = shared_if(alloc, name) else {
+                return lack(code);
+            };
             push(
                 code,
                 Node::FunctionExpression {
@@ -65,39 +72,43 @@ fn expr(alloc: Global, expr: &Expr, code: &mut Compiling) -> Result<usize, Memor
         ExprNode::ArrowFunction(params, body) => match body.get() {
             ConciseBody::ExpressionBody(value) => {
                 let list = params.as_slice();
-                let number = reserve(code)?;
-                let params = self::params(alloc, list, code)?;
-                let body = self::expr(alloc, value, code)?;
+                let number = reserve(code);
+                let params = self::params(alloc, list, code);
+                let body = self::expr(alloc, value, code);
                 let parts = Parts {
                     number,
                     params,
                     body_loc: None,
                     body,
                 };
-                let function = put_arrow_expression(alloc, parts, list, code)?;
+                let function = put_arrow_expression(alloc, parts, list, code);
                 note(code, number, function);
                 push(code, Node::ArrowFunction { loc, function })
             }
             ConciseBody::BlockBody(block) => {
                 let list = params.as_slice();
                 let statements = block.statements.as_slice();
-                let number = reserve(code)?;
-                let params = self::params(alloc, list, code)?;
-                let body = stmts(alloc, statements, code)?;
+                let number = reserve(code);
+                let params = self::params(alloc, list, code);
+                let body = stmts(alloc, statements, code);
                 let parts = Parts {
                     number,
                     params,
                     body_loc: block.loc,
                     body,
                 };
-                let function = put_arrow_block(alloc, parts, list, statements, code)?;
+                let function = put_arrow_block(alloc, parts, list, statements, code);
                 note(code, number, function);
                 push(code, Node::ArrowFunction { loc, function })
             }
         },
         ExprNode::RegularExpressionLiteral(pattern, flags) => {
-            let pattern = copied(alloc, pattern)?;
-            let flags = copied(alloc, flags)?;
+            let Ok(pattern) = copied(alloc, pattern) else {
+                return lack(code);
+            };
+            let Ok(flags) = copied(alloc, flags) else {
+                return lack(code);
+            };
             push(
                 code,
                 Node::RegularExpressionLiteral {
@@ -108,27 +119,31 @@ fn expr(alloc: Global, expr: &Expr, code: &mut Compiling) -> Result<usize, Memor
             )
         }
         ExprNode::TemplateLiteral(text, parts) => {
-            let parts = template_parts(alloc, parts.as_slice(), code)?;
-            let text = StringValue::new(alloc, text)?;
+            let parts = template_parts(alloc, parts.as_slice(), code);
+            let Ok(text) = StringValue::new(alloc, text) else {
+                return lack(code);
+            };
             push(code, Node::TemplateLiteral { loc, text, parts })
         }
         ExprNode::Parenthesized(inner) => {
-            let inner = self::expr(alloc, inner.get(), code)?;
+            let inner = self::expr(alloc, inner.get(), code);
             push(code, Node::Parenthesized { loc, inner })
         }
         ExprNode::NamedMember(object, name) => {
-            let object = self::expr(alloc, object.get(), code)?;
-            let name = Word::new(alloc, name.as_str())?;
+            let object = self::expr(alloc, object.get(), code);
+            let Ok(name) = Word::new(alloc, name.as_str()) else {
+                return lack(code);
+            };
             push(code, Node::NamedMember { loc, object, name })
         }
         ExprNode::ComputedMember(object, key) => {
-            let object = self::expr(alloc, object.get(), code)?;
-            let key = self::expr(alloc, key.get(), code)?;
+            let object = self::expr(alloc, object.get(), code);
+            let key = self::expr(alloc, key.get(), code);
             push(code, Node::ComputedMember { loc, object, key })
         }
         ExprNode::New(constructor, arguments) => {
-            let constructor = self::expr(alloc, constructor.get(), code)?;
-            let arguments = exprs(alloc, arguments.as_slice(), code)?;
+            let constructor = self::expr(alloc, constructor.get(), code);
+            let arguments = exprs(alloc, arguments.as_slice(), code);
             push(
                 code,
                 Node::New {
@@ -139,8 +154,8 @@ fn expr(alloc: Global, expr: &Expr, code: &mut Compiling) -> Result<usize, Memor
             )
         }
         ExprNode::Call(callee, arguments) => {
-            let callee = self::expr(alloc, callee.get(), code)?;
-            let arguments = exprs(alloc, arguments.as_slice(), code)?;
+            let callee = self::expr(alloc, callee.get(), code);
+            let arguments = exprs(alloc, arguments.as_slice(), code);
             push(
                 code,
                 Node::Call {
@@ -151,7 +166,7 @@ fn expr(alloc: Global, expr: &Expr, code: &mut Compiling) -> Result<usize, Memor
             )
         }
         ExprNode::PostfixUpdate(operator, target) => {
-            let target = self::expr(alloc, target.get(), code)?;
+            let target = self::expr(alloc, target.get(), code);
             push(
                 code,
                 Node::PostfixUpdate {
@@ -162,7 +177,7 @@ fn expr(alloc: Global, expr: &Expr, code: &mut Compiling) -> Result<usize, Memor
             )
         }
         ExprNode::PrefixUpdate(operator, target) => {
-            let target = self::expr(alloc, target.get(), code)?;
+            let target = self::expr(alloc, target.get(), code);
             push(
                 code,
                 Node::PrefixUpdate {
@@ -173,7 +188,7 @@ fn expr(alloc: Global, expr: &Expr, code: &mut Compiling) -> Result<usize, Memor
             )
         }
         ExprNode::Unary(operator, operand) => {
-            let operand = self::expr(alloc, operand.get(), code)?;
+            let operand = self::expr(alloc, operand.get(), code);
             push(
                 code,
                 Node::Unary {
@@ -184,8 +199,8 @@ fn expr(alloc: Global, expr: &Expr, code: &mut Compiling) -> Result<usize, Memor
             )
         }
         ExprNode::Binary(operator, left, right) => {
-            let left = self::expr(alloc, left.get(), code)?;
-            let right = self::expr(alloc, right.get(), code)?;
+            let left = self::expr(alloc, left.get(), code);
+            let right = self::expr(alloc, right.get(), code);
             push(
                 code,
                 Node::Binary {
@@ -197,8 +212,8 @@ fn expr(alloc: Global, expr: &Expr, code: &mut Compiling) -> Result<usize, Memor
             )
         }
         ExprNode::Logical(operator, left, right) => {
-            let left = self::expr(alloc, left.get(), code)?;
-            let right = self::expr(alloc, right.get(), code)?;
+            let left = self::expr(alloc, left.get(), code);
+            let right = self::expr(alloc, right.get(), code);
             push(
                 code,
                 Node::Logical {
@@ -210,9 +225,9 @@ fn expr(alloc: Global, expr: &Expr, code: &mut Compiling) -> Result<usize, Memor
             )
         }
         ExprNode::Conditional(test, holds, fails) => {
-            let test = self::expr(alloc, test.get(), code)?;
-            let holds = self::expr(alloc, holds.get(), code)?;
-            let fails = self::expr(alloc, fails.get(), code)?;
+            let test = self::expr(alloc, test.get(), code);
+            let holds = self::expr(alloc, holds.get(), code);
+            let fails = self::expr(alloc, fails.get(), code);
             push(
                 code,
                 Node::Conditional {
@@ -224,8 +239,8 @@ fn expr(alloc: Global, expr: &Expr, code: &mut Compiling) -> Result<usize, Memor
             )
         }
         ExprNode::Assignment(operator, target, value) => {
-            let target = self::expr(alloc, target.get(), code)?;
-            let value = self::expr(alloc, value.get(), code)?;
+            let target = self::expr(alloc, target.get(), code);
+            let value = self::expr(alloc, value.get(), code);
             push(
                 code,
                 Node::Assignment {
@@ -237,8 +252,8 @@ fn expr(alloc: Global, expr: &Expr, code: &mut Compiling) -> Result<usize, Memor
             )
         }
         ExprNode::Comma(left, right) => {
-            let left = self::expr(alloc, left.get(), code)?;
-            let right = self::expr(alloc, right.get(), code)?;
+            let left = self::expr(alloc, left.get(), code);
+            let right = self::expr(alloc, right.get(), code);
             push(code, Node::Comma { loc, left, right })
         }
     }
@@ -246,8 +261,8 @@ fn expr(alloc: Global, expr: &Expr, code: &mut Compiling) -> Result<usize, Memor
 
 /// An expression that may be missing.
 #[cycle(compile)]
-fn expr_if(alloc: Global, expr: &Option<Boxed<Expr>>, code: &mut Compiling) -> Result<usize, Memory>
-    ensures { IfOk result (λ place. CompilesExprIf code.old code.new place (plain_expr_if expr.now)) }
+fn expr_if(alloc: Global, expr: &Option<Boxed<Expr>>, code: &mut Compiling) -> usize
+    ensures { Kept code.old code.new (CompilesExprIf code.old code.new result (plain_expr_if expr.now)) }
 {
     match expr {
         None => push(code, Node::Missing),
@@ -257,56 +272,58 @@ fn expr_if(alloc: Global, expr: &Option<Boxed<Expr>>, code: &mut Compiling) -> R
 
 /// The list of some expressions.
 #[cycle(compile)]
-fn exprs(alloc: Global, exprs: &[Expr], code: &mut Compiling) -> Result<usize, Memory>
-    ensures { IfOk result (λ place. CompilesExprs code.old code.new place (plain_exprs exprs.now)) }
+fn exprs(alloc: Global, exprs: &[Expr], code: &mut Compiling) -> usize
+    ensures { Kept code.old code.new (CompilesExprs code.old code.new result (plain_exprs exprs.now)) }
 {
     let mut places = Items::new(alloc);
     for index in 0..exprs.len() {
-        places.push(expr(alloc, &exprs[index], code)?)?;
+        let place = expr(alloc, &exprs[index], code);
+        hold(code, &mut places, place);
     }
     chain(code, ListKind::Exprs, places.as_slice())
 }
 
 /// A part of a template.
 #[cycle(compile)]
-fn template_part(alloc: Global, part: &TemplatePart, code: &mut Compiling) -> Result<usize, Memory>
-    ensures { IfOk result (λ place. CompilesTemplatePart code.old code.new place (plain_template_part part.now)) }
+fn template_part(alloc: Global, part: &TemplatePart, code: &mut Compiling) -> usize
+    ensures { Kept code.old code.new (CompilesTemplatePart code.old code.new result (plain_template_part part.now)) }
 {
-    let value = expr(alloc, &part.value, code)?;
-    let text = StringValue::new(alloc, &part.text)?;
+    let value = expr(alloc, &part.value, code);
+    let Ok(text) = StringValue::new(alloc, &part.text) else {
+        return lack(code);
+    };
     push(code, Node::TemplatePart { value, text })
 }
 
 /// The list of some template parts.
 #[cycle(compile)]
-fn template_parts(
-    alloc: Global,
-    template_parts: &[TemplatePart],
-    code: &mut Compiling,
-) -> Result<usize, Memory>
-    ensures { IfOk result (λ place. CompilesTemplateParts code.old code.new place (plain_template_parts template_parts.now)) }
+fn template_parts(alloc: Global, template_parts: &[TemplatePart], code: &mut Compiling) -> usize
+    ensures { Kept code.old code.new (CompilesTemplateParts code.old code.new result (plain_template_parts template_parts.now)) }
 {
     let mut places = Items::new(alloc);
     for index in 0..template_parts.len() {
-        places.push(template_part(alloc, &template_parts[index], code)?)?;
+        let place = template_part(alloc, &template_parts[index], code);
+        hold(code, &mut places, place);
     }
     chain(code, ListKind::TemplateParts, places.as_slice())
 }
 
 /// A property.
 #[cycle(compile)]
-fn property(alloc: Global, property: &Property, code: &mut Compiling) -> Result<usize, Memory>
-    ensures { IfOk result (λ place. CompilesProperty code.old code.new place (plain_property property.now)) }
+fn property(alloc: Global, property: &Property, code: &mut Compiling) -> usize
+    ensures { Kept code.old code.new (CompilesProperty code.old code.new result (plain_property property.now)) }
 {
     let loc = property.loc;
     match &property.node {
         PropertyNode::Shorthand(name) => {
-            let name = Word::new(alloc, name.as_str())?;
+            let Ok(name) = Word::new(alloc, name.as_str()) else {
+                return lack(code);
+            };
             push(code, Node::Shorthand { loc, name })
         }
         PropertyNode::KeyValue(key, value) => {
-            let key = property_key(alloc, key, code)?;
-            let value = expr(alloc, value.get(), code)?;
+            let key = property_key(alloc, key, code);
+            let value = expr(alloc, value.get(), code);
             push(code, Node::KeyValue { loc, key, value })
         }
         PropertyNode::Method(key, function) => {
@@ -314,17 +331,17 @@ fn property(alloc: Global, property: &Property, code: &mut Compiling) -> Result<
             let list = source.params.as_slice();
             let statements = source.body.statements.as_slice();
             // its number comes before those of its key
-            let number = reserve(code)?;
-            let key = property_key(alloc, key, code)?;
-            let params = self::params(alloc, list, code)?;
-            let body = stmts(alloc, statements, code)?;
+            let number = reserve(code);
+            let key = property_key(alloc, key, code);
+            let params = self::params(alloc, list, code);
+            let body = stmts(alloc, statements, code);
             let parts = Parts {
                 number,
                 params,
                 body_loc: source.body.loc,
                 body,
             };
-            let function = put_function(alloc, true, parts, list, statements, code)?;
+            let function = put_function(alloc, true, parts, list, statements, code);
             note(code, number, function);
             push(code, Node::Method { loc, key, function })
         }
@@ -333,24 +350,30 @@ fn property(alloc: Global, property: &Property, code: &mut Compiling) -> Result<
 
 /// The key of a property.
 #[cycle(compile)]
-fn property_key(alloc: Global, key: &PropertyKey, code: &mut Compiling) -> Result<usize, Memory>
-    ensures { IfOk result (λ place. CompilesPropertyKey code.old code.new place (plain_property_key key.now)) }
+fn property_key(alloc: Global, key: &PropertyKey, code: &mut Compiling) -> usize
+    ensures { Kept code.old code.new (CompilesPropertyKey code.old code.new result (plain_property_key key.now)) }
 {
     match key {
         PropertyKey::NameKey(name) => {
-            let name = Word::new(alloc, name.as_str())?;
+            let Ok(name) = Word::new(alloc, name.as_str()) else {
+                return lack(code);
+            };
             push(code, Node::NameKey { name })
         }
         PropertyKey::StringKey(string) => {
-            let literal = StringValue::new(alloc, string)?;
+            let Ok(literal) = StringValue::new(alloc, string) else {
+                return lack(code);
+            };
             push(code, Node::StringKey { literal })
         }
         PropertyKey::NumberKey(spelling) => {
-            let numeral = Numeral::new(alloc, spelling.as_str())?;
+            let Ok(numeral) = Numeral::new(alloc, spelling.as_str()) else {
+                return lack(code);
+            };
             push(code, Node::NumberKey { numeral })
         }
         PropertyKey::ComputedKey(value) => {
-            let value = expr(alloc, value.get(), code)?;
+            let value = expr(alloc, value.get(), code);
             push(code, Node::ComputedKey { value })
         }
     }
@@ -358,44 +381,47 @@ fn property_key(alloc: Global, key: &PropertyKey, code: &mut Compiling) -> Resul
 
 /// The list of some properties.
 #[cycle(compile)]
-fn properties(alloc: Global, properties: &[Property], code: &mut Compiling) -> Result<usize, Memory>
-    ensures { IfOk result (λ place. CompilesProperties code.old code.new place (plain_properties properties.now)) }
+fn properties(alloc: Global, properties: &[Property], code: &mut Compiling) -> usize
+    ensures { Kept code.old code.new (CompilesProperties code.old code.new result (plain_properties properties.now)) }
 {
     let mut places = Items::new(alloc);
     for index in 0..properties.len() {
-        places.push(property(alloc, &properties[index], code)?)?;
+        let place = property(alloc, &properties[index], code);
+        hold(code, &mut places, place);
     }
     chain(code, ListKind::Properties, places.as_slice())
 }
 
 /// The code of a function that is no method.
 #[cycle(compile)]
-fn function(alloc: Global, function: &Function, code: &mut Compiling) -> Result<usize, Memory>
-    ensures { IfOk result (λ place. CompilesFunction code.old code.new place (plain_function function.now)) }
+fn function(alloc: Global, function: &Function, code: &mut Compiling) -> usize
+    ensures { Kept code.old code.new (CompilesFunction code.old code.new result (plain_function function.now)) }
 {
     let list = function.params.as_slice();
     let statements = function.body.statements.as_slice();
-    let number = reserve(code)?;
-    let params = self::params(alloc, list, code)?;
-    let body = stmts(alloc, statements, code)?;
+    let number = reserve(code);
+    let params = self::params(alloc, list, code);
+    let body = stmts(alloc, statements, code);
     let parts = Parts {
         number,
         params,
         body_loc: function.body.loc,
         body,
     };
-    let place = put_function(alloc, false, parts, list, statements, code)?;
+    let place = put_function(alloc, false, parts, list, statements, code);
     note(code, number, place);
-    Ok(place)
+    place
 }
 
 /// A parameter.
 #[cycle(compile)]
-fn param(alloc: Global, param: &Param, code: &mut Compiling) -> Result<usize, Memory>
-    ensures { IfOk result (λ place. CompilesParam code.old code.new place (plain_param param.now)) }
+fn param(alloc: Global, param: &Param, code: &mut Compiling) -> usize
+    ensures { Kept code.old code.new (CompilesParam code.old code.new result (plain_param param.now)) }
 {
-    let default = expr_if(alloc, &param.default, code)?;
-    let name = bound_name(alloc, &param.pattern)?;
+    let default = expr_if(alloc, &param.default, code);
+    let Ok(name) = bound_name(alloc, &param.pattern) else {
+        return lack(code);
+    };
     push(
         code,
         Node::Param {
@@ -409,33 +435,36 @@ fn param(alloc: Global, param: &Param, code: &mut Compiling) -> Result<usize, Me
 
 /// The list of some parameters.
 #[cycle(compile)]
-fn params(alloc: Global, params: &[Param], code: &mut Compiling) -> Result<usize, Memory>
-    ensures { IfOk result (λ place. CompilesParams code.old code.new place (plain_params params.now)) }
+fn params(alloc: Global, params: &[Param], code: &mut Compiling) -> usize
+    ensures { Kept code.old code.new (CompilesParams code.old code.new result (plain_params params.now)) }
 {
     let mut places = Items::new(alloc);
     for index in 0..params.len() {
-        places.push(param(alloc, &params[index], code)?)?;
+        let place = param(alloc, &params[index], code);
+        hold(code, &mut places, place);
     }
     chain(code, ListKind::Params, places.as_slice())
 }
 
 /// A statement.
 #[cycle(compile)]
-fn stmt(alloc: Global, stmt: &Stmt, code: &mut Compiling) -> Result<usize, Memory>
-    ensures { IfOk result (λ place. CompilesStmt code.old code.new place (plain_stmt stmt.now)) }
+fn stmt(alloc: Global, stmt: &Stmt, code: &mut Compiling) -> usize
+    ensures { Kept code.old code.new (CompilesStmt code.old code.new result (plain_stmt stmt.now)) }
 {
     let loc = stmt.loc;
     match &stmt.node {
         StmtNode::Directive(string) => {
-            let literal = StringValue::new(alloc, string)?;
+            let Ok(literal) = StringValue::new(alloc, string) else {
+                return lack(code);
+            };
             push(code, Node::Directive { loc, literal })
         }
         StmtNode::Block(statements) => {
-            let statements = scope(alloc, statements.as_slice(), code)?;
+            let statements = scope(alloc, statements.as_slice(), code);
             push(code, Node::Block { loc, statements })
         }
         StmtNode::VariableDeclaration(kind, declarators) => {
-            let declarators = self::declarators(alloc, declarators.as_slice(), code)?;
+            let declarators = self::declarators(alloc, declarators.as_slice(), code);
             push(
                 code,
                 Node::VariableDeclaration {
@@ -447,13 +476,13 @@ fn stmt(alloc: Global, stmt: &Stmt, code: &mut Compiling) -> Result<usize, Memor
         }
         StmtNode::Empty => push(code, Node::Empty { loc }),
         StmtNode::Expression(expression) => {
-            let expression = expr(alloc, expression.get(), code)?;
+            let expression = expr(alloc, expression.get(), code);
             push(code, Node::Expression { loc, expression })
         }
         StmtNode::If(test, holds, fails) => {
-            let test = expr(alloc, test.get(), code)?;
-            let holds = self::stmt(alloc, holds.get(), code)?;
-            let fails = stmt_if(alloc, fails, code)?;
+            let test = expr(alloc, test.get(), code);
+            let holds = self::stmt(alloc, holds.get(), code);
+            let fails = stmt_if(alloc, fails, code);
             push(
                 code,
                 Node::If {
@@ -465,20 +494,20 @@ fn stmt(alloc: Global, stmt: &Stmt, code: &mut Compiling) -> Result<usize, Memor
             )
         }
         StmtNode::DoWhile(body, test) => {
-            let body = self::stmt(alloc, body.get(), code)?;
-            let test = expr(alloc, test.get(), code)?;
+            let body = self::stmt(alloc, body.get(), code);
+            let test = expr(alloc, test.get(), code);
             push(code, Node::DoWhile { loc, body, test })
         }
         StmtNode::While(test, body) => {
-            let test = expr(alloc, test.get(), code)?;
-            let body = self::stmt(alloc, body.get(), code)?;
+            let test = expr(alloc, test.get(), code);
+            let body = self::stmt(alloc, body.get(), code);
             push(code, Node::While { loc, test, body })
         }
         StmtNode::For(init, test, update, body) => {
-            let init = for_init(alloc, init.get(), code)?;
-            let test = expr_if(alloc, test, code)?;
-            let update = expr_if(alloc, update, code)?;
-            let body = self::stmt(alloc, body.get(), code)?;
+            let init = for_init(alloc, init.get(), code);
+            let test = expr_if(alloc, test, code);
+            let update = expr_if(alloc, update, code);
+            let body = self::stmt(alloc, body.get(), code);
             push(
                 code,
                 Node::For {
@@ -491,9 +520,9 @@ fn stmt(alloc: Global, stmt: &Stmt, code: &mut Compiling) -> Result<usize, Memor
             )
         }
         StmtNode::ForIn(target, object, body) => {
-            let target = for_target(alloc, target.get(), code)?;
-            let object = expr(alloc, object.get(), code)?;
-            let body = self::stmt(alloc, body.get(), code)?;
+            let target = for_target(alloc, target.get(), code);
+            let object = expr(alloc, object.get(), code);
+            let body = self::stmt(alloc, body.get(), code);
             push(
                 code,
                 Node::ForIn {
@@ -505,9 +534,9 @@ fn stmt(alloc: Global, stmt: &Stmt, code: &mut Compiling) -> Result<usize, Memor
             )
         }
         StmtNode::ForOf(target, iterable, body) => {
-            let target = for_target(alloc, target.get(), code)?;
-            let iterable = expr(alloc, iterable.get(), code)?;
-            let body = self::stmt(alloc, body.get(), code)?;
+            let target = for_target(alloc, target.get(), code);
+            let iterable = expr(alloc, iterable.get(), code);
+            let body = self::stmt(alloc, body.get(), code);
             push(
                 code,
                 Node::ForOf {
@@ -519,45 +548,51 @@ fn stmt(alloc: Global, stmt: &Stmt, code: &mut Compiling) -> Result<usize, Memor
             )
         }
         StmtNode::Continue(label) => {
-            let label = shared_if(alloc, label)?;
+            let Ok(label) = shared_if(alloc, label) else {
+                return lack(code);
+            };
             push(code, Node::Continue { loc, label })
         }
         StmtNode::Break(label) => {
-            let label = shared_if(alloc, label)?;
+            let Ok(label) = shared_if(alloc, label) else {
+                return lack(code);
+            };
             push(code, Node::Break { loc, label })
         }
         StmtNode::Return(value) => {
-            let value = expr_if(alloc, value, code)?;
+            let value = expr_if(alloc, value, code);
             push(code, Node::Return { loc, value })
         }
         StmtNode::Switch(value, cases) => {
-            let value = expr(alloc, value.get(), code)?;
-            let cases = case_scope(alloc, cases.as_slice(), code)?;
+            let value = expr(alloc, value.get(), code);
+            let cases = case_scope(alloc, cases.as_slice(), code);
             push(code, Node::Switch { loc, value, cases })
         }
         StmtNode::Labelled(label, body) => {
-            let body = self::stmt(alloc, body.get(), code)?;
-            let label = SharedIdentifier::new(alloc, label)?;
+            let body = self::stmt(alloc, body.get(), code);
+            let Ok(label) = SharedIdentifier::new(alloc, label) else {
+                return lack(code);
+            };
             push(code, Node::Labelled { loc, label, body })
         }
         StmtNode::Throw(value) => {
-            let value = expr(alloc, value.get(), code)?;
+            let value = expr(alloc, value.get(), code);
             push(code, Node::Throw { loc, value })
         }
         StmtNode::TryCatch(block, catch) => {
-            let block = scope(alloc, block.as_slice(), code)?;
-            let catch = self::catch(alloc, catch.get(), code)?;
+            let block = scope(alloc, block.as_slice(), code);
+            let catch = self::catch(alloc, catch.get(), code);
             push(code, Node::TryCatch { loc, block, catch })
         }
         StmtNode::TryFinally(block, last) => {
-            let block = scope(alloc, block.as_slice(), code)?;
-            let last = scope(alloc, last.as_slice(), code)?;
+            let block = scope(alloc, block.as_slice(), code);
+            let last = scope(alloc, last.as_slice(), code);
             push(code, Node::TryFinally { loc, block, last })
         }
         StmtNode::TryCatchFinally(block, catch, last) => {
-            let block = scope(alloc, block.as_slice(), code)?;
-            let catch = self::catch(alloc, catch.get(), code)?;
-            let last = scope(alloc, last.as_slice(), code)?;
+            let block = scope(alloc, block.as_slice(), code);
+            let catch = self::catch(alloc, catch.get(), code);
+            let last = scope(alloc, last.as_slice(), code);
             push(
                 code,
                 Node::TryCatchFinally {
@@ -570,8 +605,10 @@ fn stmt(alloc: Global, stmt: &Stmt, code: &mut Compiling) -> Result<usize, Memor
         }
         StmtNode::Debugger => push(code, Node::Debugger { loc }),
         StmtNode::FunctionDeclaration(name, function) => {
-            let function = self::function(alloc, function.get(), code)?;
-            let name = SharedIdentifier::new(alloc, name)?;
+            let function = self::function(alloc, function.get(), code);
+            let Ok(name) = SharedIdentifier::new(alloc, name) else {
+                return lack(code);
+            };
             push(
                 code,
                 Node::FunctionDeclaration {
@@ -586,8 +623,8 @@ fn stmt(alloc: Global, stmt: &Stmt, code: &mut Compiling) -> Result<usize, Memor
 
 /// A statement that may be missing.
 #[cycle(compile)]
-fn stmt_if(alloc: Global, stmt: &Option<Boxed<Stmt>>, code: &mut Compiling) -> Result<usize, Memory>
-    ensures { IfOk result (λ place. CompilesStmtIf code.old code.new place (plain_stmt_if stmt.now)) }
+fn stmt_if(alloc: Global, stmt: &Option<Boxed<Stmt>>, code: &mut Compiling) -> usize
+    ensures { Kept code.old code.new (CompilesStmtIf code.old code.new result (plain_stmt_if stmt.now)) }
 {
     match stmt {
         None => push(code, Node::Missing),
@@ -597,32 +634,35 @@ fn stmt_if(alloc: Global, stmt: &Option<Boxed<Stmt>>, code: &mut Compiling) -> R
 
 /// The list of some statements.
 #[cycle(compile)]
-pub fn stmts(alloc: Global, stmts: &[Stmt], code: &mut Compiling) -> Result<usize, Memory>
-    ensures { IfOk result (λ place. CompilesStmts code.old code.new place (plain_stmts stmts.now)) }
+pub fn stmts(alloc: Global, stmts: &[Stmt], code: &mut Compiling) -> usize
+    ensures { Kept code.old code.new (CompilesStmts code.old code.new result (plain_stmts stmts.now)) }
 {
     let mut places = Items::new(alloc);
     for index in 0..stmts.len() {
-        places.push(stmt(alloc, &stmts[index], code)?)?;
+        let place = stmt(alloc, &stmts[index], code);
+        hold(code, &mut places, place);
     }
     chain(code, ListKind::Stmts, places.as_slice())
 }
 
 /// Some statements that are a scope of their own.
 #[cycle(compile)]
-fn scope(alloc: Global, stmts: &[Stmt], code: &mut Compiling) -> Result<usize, Memory>
-    ensures { IfOk result (λ place. CompilesScope code.old code.new place (plain_stmts stmts.now)) }
+fn scope(alloc: Global, stmts: &[Stmt], code: &mut Compiling) -> usize
+    ensures { Kept code.old code.new (CompilesScope code.old code.new result (plain_stmts stmts.now)) }
 {
-    let list = self::stmts(alloc, stmts, code)?;
+    let list = self::stmts(alloc, stmts, code);
     put_scope(alloc, stmts, list, code)
 }
 
 /// A declarator.
 #[cycle(compile)]
-fn declarator(alloc: Global, declarator: &Declarator, code: &mut Compiling) -> Result<usize, Memory>
-    ensures { IfOk result (λ place. CompilesDeclarator code.old code.new place (plain_declarator declarator.now)) }
+fn declarator(alloc: Global, declarator: &Declarator, code: &mut Compiling) -> usize
+    ensures { Kept code.old code.new (CompilesDeclarator code.old code.new result (plain_declarator declarator.now)) }
 {
-    let initializer = expr_if(alloc, &declarator.initializer, code)?;
-    let name = bound_name(alloc, &declarator.pattern)?;
+    let initializer = expr_if(alloc, &declarator.initializer, code);
+    let Ok(name) = bound_name(alloc, &declarator.pattern) else {
+        return lack(code);
+    };
     push(
         code,
         Node::Declarator {
@@ -636,34 +676,31 @@ fn declarator(alloc: Global, declarator: &Declarator, code: &mut Compiling) -> R
 
 /// The list of some declarators.
 #[cycle(compile)]
-fn declarators(
-    alloc: Global,
-    declarators: &[Declarator],
-    code: &mut Compiling,
-) -> Result<usize, Memory>
-    ensures { IfOk result (λ place. CompilesDeclarators code.old code.new place (plain_declarators declarators.now)) }
+fn declarators(alloc: Global, declarators: &[Declarator], code: &mut Compiling) -> usize
+    ensures { Kept code.old code.new (CompilesDeclarators code.old code.new result (plain_declarators declarators.now)) }
 {
     let mut places = Items::new(alloc);
     for index in 0..declarators.len() {
-        places.push(declarator(alloc, &declarators[index], code)?)?;
+        let place = declarator(alloc, &declarators[index], code);
+        hold(code, &mut places, place);
     }
     chain(code, ListKind::Declarators, places.as_slice())
 }
 
 /// The first part of a `for`.
 #[cycle(compile)]
-fn for_init(alloc: Global, init: &ForInit, code: &mut Compiling) -> Result<usize, Memory>
-    ensures { IfOk result (λ place. CompilesForInit code.old code.new place (plain_for_init init.now)) }
+fn for_init(alloc: Global, init: &ForInit, code: &mut Compiling) -> usize
+    ensures { Kept code.old code.new (CompilesForInit code.old code.new result (plain_for_init init.now)) }
 {
     match init {
         ForInit::NoInit => push(code, Node::NoInit),
         ForInit::InitDeclaration(kind, declarators) => {
             let source = declarators.as_slice();
-            let list = self::declarators(alloc, source, code)?;
+            let list = self::declarators(alloc, source, code);
             put_init(alloc, *kind, source, list, code)
         }
         ForInit::InitExpression(expression) => {
-            let expression = expr(alloc, expression.get(), code)?;
+            let expression = expr(alloc, expression.get(), code);
             push(code, Node::InitExpression { expression })
         }
     }
@@ -671,12 +708,14 @@ fn for_init(alloc: Global, init: &ForInit, code: &mut Compiling) -> Result<usize
 
 /// The target of a `for` with `in` or `of`.
 #[cycle(compile)]
-fn for_target(alloc: Global, target: &ForTarget, code: &mut Compiling) -> Result<usize, Memory>
-    ensures { IfOk result (λ place. CompilesForTarget code.old code.new place (plain_for_target target.now)) }
+fn for_target(alloc: Global, target: &ForTarget, code: &mut Compiling) -> usize
+    ensures { Kept code.old code.new (CompilesForTarget code.old code.new result (plain_for_target target.now)) }
 {
     match target {
         ForTarget::TargetDeclaration(kind, pattern) => {
-            let name = bound_name(alloc, pattern)?;
+            let Ok(name) = bound_name(alloc, pattern) else {
+                return lack(code);
+            };
             push(
                 code,
                 Node::TargetDeclaration {
@@ -687,7 +726,7 @@ fn for_target(alloc: Global, target: &ForTarget, code: &mut Compiling) -> Result
             )
         }
         ForTarget::TargetExpression(expression) => {
-            let expression = expr(alloc, expression.get(), code)?;
+            let expression = expr(alloc, expression.get(), code);
             push(code, Node::TargetExpression { expression })
         }
     }
@@ -695,11 +734,11 @@ fn for_target(alloc: Global, target: &ForTarget, code: &mut Compiling) -> Result
 
 /// A clause of a `switch`.
 #[cycle(compile)]
-fn case(alloc: Global, case: &Case, code: &mut Compiling) -> Result<usize, Memory>
-    ensures { IfOk result (λ place. CompilesCase code.old code.new place (plain_case case.now)) }
+fn case(alloc: Global, case: &Case, code: &mut Compiling) -> usize
+    ensures { Kept code.old code.new (CompilesCase code.old code.new result (plain_case case.now)) }
 {
-    let test = expr_if(alloc, &case.test, code)?;
-    let statements = stmts(alloc, case.statements.as_slice(), code)?;
+    let test = expr_if(alloc, &case.test, code);
+    let statements = stmts(alloc, case.statements.as_slice(), code);
     push(
         code,
         Node::Case {
@@ -712,35 +751,38 @@ fn case(alloc: Global, case: &Case, code: &mut Compiling) -> Result<usize, Memor
 
 /// The list of some cases.
 #[cycle(compile)]
-fn cases(alloc: Global, cases: &[Case], code: &mut Compiling) -> Result<usize, Memory>
-    ensures { IfOk result (λ place. CompilesCases code.old code.new place (plain_cases cases.now)) }
+fn cases(alloc: Global, cases: &[Case], code: &mut Compiling) -> usize
+    ensures { Kept code.old code.new (CompilesCases code.old code.new result (plain_cases cases.now)) }
 {
     let mut places = Items::new(alloc);
     for index in 0..cases.len() {
-        places.push(case(alloc, &cases[index], code)?)?;
+        let place = case(alloc, &cases[index], code);
+        hold(code, &mut places, place);
     }
     chain(code, ListKind::Cases, places.as_slice())
 }
 
 /// The clauses of a `switch`, which are one scope.
 #[cycle(compile)]
-fn case_scope(alloc: Global, cases: &[Case], code: &mut Compiling) -> Result<usize, Memory>
-    ensures { IfOk result (λ place. CompilesCaseScope code.old code.new place (plain_cases cases.now)) }
+fn case_scope(alloc: Global, cases: &[Case], code: &mut Compiling) -> usize
+    ensures { Kept code.old code.new (CompilesCaseScope code.old code.new result (plain_cases cases.now)) }
 {
-    let list = self::cases(alloc, cases, code)?;
+    let list = self::cases(alloc, cases, code);
     put_case_scope(alloc, cases, list, code)
 }
 
 /// A `catch` clause.
 #[cycle(compile)]
-fn catch(alloc: Global, catch: &Catch, code: &mut Compiling) -> Result<usize, Memory>
-    ensures { IfOk result (λ place. CompilesCatch code.old code.new place (plain_catch catch.now)) }
+fn catch(alloc: Global, catch: &Catch, code: &mut Compiling) -> usize
+    ensures { Kept code.old code.new (CompilesCatch code.old code.new result (plain_catch catch.now)) }
 {
-    let statements = scope(alloc, catch.statements.as_slice(), code)?;
+    let statements = scope(alloc, catch.statements.as_slice(), code);
     match &catch.parameter {
         None => push(code, Node::Catch { statements }),
         Some(pattern) => {
-            let name = bound_name(alloc, pattern)?;
+            let Ok(name) = bound_name(alloc, pattern) else {
+                return lack(code);
+            };
             push(
                 code,
                 Node::CatchName {

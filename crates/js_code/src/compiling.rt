@@ -1,10 +1,10 @@
-ghost use Rattle.std.specs.Prelude.{◌≡◌, ◌<◌, ◌^◌, ◌-◌, ◌++◌, ◌∷◌, [], length, set, slice_get, IfOk};
+ghost use Rattle.std.specs.Prelude.{◌≡◌, ◌<◌, ◌^◌, ◌-◌, ◌++◌, ◌∷◌, [], true, false, length, slice_get, IfOk};
 ghost use Rattle.js_tree.specs.Plain.{BindingIdentifier};
 ghost use Rattle.js_tree.specs.Tree.{plain_pattern};
 ghost use Rattle.js_code.specs.declared.node.Node.TheVariants.{Missing};
 ghost use Rattle.js_code.specs.Node.{PartsBelow, ScopeHolds};
 ghost use Rattle.js_code.specs.Code.{node_at, reader};
-ghost use Rattle.js_code.specs.private.Compiled.{AllBelow, Chained, Pushed, Stands, built};
+ghost use Rattle.js_code.specs.private.Compiled.{AllBelow, Chained, IfWhole, Kept, Noted, Pushed, Reserved, Stands, built};
 
 use crate::identifier::SharedIdentifier;
 use crate::node::{ListKind, Node};
@@ -12,16 +12,18 @@ use crate::places::Places;
 use items::{Items, Memory, Text};
 use js_names::SharedName;
 use js_tree::{Identifier, Name, Pattern, PatternNode};
-use std::alloc::Global;
+use std::alloc::{AllocError, Global};
 use std::marker::Model;
 
-/// A program's code while it is made. Contracts see its nodes, and the place of each function's code by
-/// the function's number.
+/// A program's code while it is made. Contracts see its nodes, the place of each function's code by the
+/// function's number, and whether memory was wanting: then nothing more is put, and it doesn't finish.
 pub struct Compiling {
     nodes: Items<Node>,
     functions: Places,
     // what stands past the end
     end: Node,
+    // memory was wanting: nothing more is put, and it doesn't finish
+    wanting: bool,
 }
 
 impl Model for Compiling {
@@ -32,7 +34,7 @@ impl Model for Compiling {
 
     ghost Value = { Compiling };
 
-    ghost view = { λ code. record { nodes = code.nodes; functions = code.functions } };
+    ghost view = { λ code. record { nodes = code.nodes; functions = code.functions; wanting = code.wanting } };
 
     // each node stands after its parts, and tells its scope
     ghost invariant = { λ code. IsOrdered code.nodes × ScopesHold code.nodes × (code.end ≡ Missing) };
@@ -44,6 +46,7 @@ impl Drop for Compiling {
             nodes,
             functions,
             end,
+            wanting: _,
         } = self;
         drop(nodes);
         drop(functions);
@@ -59,6 +62,16 @@ impl Compiling {
         ensures few { length self.now.nodes < 2 ^ 64 - 1 }
     {
         at(self.nodes.as_slice(), place, &self.end)
+    }
+
+    /// The place that was given for a part, unless memory was wanting.
+    pub fn finish(&self, place: usize) -> Result<usize, Memory>
+        ensures { IfOk result (λ given. (given ≡ place) × (self.now.wanting ≡ false)) }
+    {
+        if self.wanting {
+            return Err(AllocError);
+        }
+        Ok(place)
     }
 
     /// The place of the code of the function with a number.
@@ -89,18 +102,42 @@ pub fn begin(alloc: Global) -> Compiling
         nodes: Items::new(alloc),
         functions: Places::new(alloc),
         end: Node::Missing,
+        wanting: false,
     }
 }
 
-/// Puts a node at the end, and gives its place.
-pub fn push(code: &mut Compiling, node: Node) -> Result<usize, Memory>
-    requires below { PartsBelow (length code.old.nodes) node }
-    requires scope { ScopeHolds (reader code.old.nodes) node }
-    ensures { IfOk result (λ place. Pushed code.old code.new place (built node)) }
+/// Notes that memory is wanting, and gives a place of no part.
+pub fn lack(code: &mut Compiling) -> usize
+    ensures { code.new.wanting ≡ true }
 {
+    code.wanting = true;
+    0
+}
+
+/// Puts a node at the end, and gives its place, unless memory was wanting.
+pub fn push(code: &mut Compiling, node: Node) -> usize
+    requires below { IfWhole code.old (PartsBelow (length code.old.nodes) node) }
+    requires scope { IfWhole code.old (ScopeHolds (reader code.old.nodes) node) }
+    ensures { Kept code.old code.new (Pushed code.old code.new result (built node)) }
+{
+    if code.wanting {
+        drop(node);
+        return 0;
+    }
     let place = code.nodes.len();
-    code.nodes.push(node)?;
-    Ok(place)
+    match code.nodes.push(node) {
+        Ok(()) => place,
+        Err(AllocError) => lack(code),
+    }
+}
+
+/// Puts a place at the end of some, unless memory is wanting.
+pub fn hold(code: &mut Compiling, places: &mut Items<usize>, place: usize)
+    ensures { Kept code.old code.new ((code.new ≡ code.old) × (places.new ≡ places.old ++ place ∷ [])) }
+{
+    if places.push(place).is_err() {
+        code.wanting = true;
+    }
 }
 
 /// A copy of a text.
@@ -118,32 +155,32 @@ pub fn shared(alloc: Global, name: &Name) -> Result<SharedName, Memory>
 }
 
 /// Puts the list of the parts at these places at the end, and gives its place.
-pub fn chain(code: &mut Compiling, kind: ListKind, places: &[usize]) -> Result<usize, Memory>
-    requires below { AllBelow (length code.old.nodes) places.now }
-    ensures { IfOk result (λ place. Chained code.old code.new kind places.now place) }
+pub fn chain(code: &mut Compiling, kind: ListKind, places: &[usize]) -> usize
+    requires below { IfWhole code.old (AllBelow (length code.old.nodes) places.now) }
+    ensures { Kept code.old code.new (Chained code.old code.new kind places.now result) }
 {
-    let mut rest = push(code, Node::End { kind })?;
+    let mut rest = push(code, Node::End { kind });
     for index in (0..places.len()).rev() {
         let first = places[index];
-        rest = push(code, Node::More { kind, first, rest })?;
+        rest = push(code, Node::More { kind, first, rest });
     }
-    Ok(rest)
+    rest
 }
 
 /// The number of the next function, whose code comes later.
-pub fn reserve(code: &mut Compiling) -> Result<u64, Memory>
-    ensures nodes { code.new.nodes ≡ code.old.nodes }
-    ensures reserved { IfOk result (λ number. (number ≡ length code.old.functions) × (code.new.functions ≡ code.old.functions ++ 0 ∷ [])) }
+pub fn reserve(code: &mut Compiling) -> u64
+    ensures { Kept code.old code.new (Reserved code.old code.new result) }
 {
     let number = code.functions.len();
-    code.functions.push(0)?;
-    Ok(number as u64)
+    if code.functions.push(0).is_err() {
+        code.wanting = true;
+    }
+    number as u64
 }
 
 /// The code of the function with this number stands at this place.
 pub fn note(code: &mut Compiling, number: u64, place: usize)
-    ensures nodes { code.new.nodes ≡ code.old.nodes }
-    ensures noted { code.new.functions ≡ set code.old.functions number place }
+    ensures { Kept code.old code.new (Noted code.old code.new number place) }
 {
     code.functions.put(number as usize, place);
 }

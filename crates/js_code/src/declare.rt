@@ -1,17 +1,17 @@
 // What stands around lists of parts: scopes, and the codes of functions.
 
-ghost use Rattle.std.specs.Prelude.{◌≡◌, ◌<◌, length, IfOk};
+ghost use Rattle.std.specs.Prelude.{◌≡◌, ◌<◌, length};
 ghost use Rattle.js_tree.specs.Plain as P;
 ghost use Rattle.js_tree.specs.Tree.{plain_cases, plain_declarators, plain_params, plain_stmts};
 ghost use Rattle.js_code.specs.Part.{ACaseScope, AForInit, AScope, as_cases, as_declarators, as_stmts};
 ghost use Rattle.js_meaning.specs.Scopes.{is_fresh as fresh_init};
-ghost use Rattle.js_code.specs.private.Compiled.{Pushed, ReadsCases, ReadsDeclarators, ReadsParams, ReadsStmts, arrow_block_part, arrow_expression_part, code_part};
+ghost use Rattle.js_code.specs.private.Compiled.{IfWhole, Kept, Pushed, ReadsCases, ReadsDeclarators, ReadsParams, ReadsStmts, arrow_block_part, arrow_expression_part, code_part};
 
-use crate::compiling::{Compiling, push};
+use crate::compiling::{Compiling, lack, push};
 use crate::hoisting::{hoisted, hoisted_of_cases};
 use crate::names::{block_scope, case_scope, code_scope, expected_arguments, lexical_names};
 use crate::node::Node;
-use items::{Items, Memory};
+use items::Items;
 use js_tree::{Case, Declarator, Loc, Param, Stmt, VariableKind};
 use std::alloc::Global;
 
@@ -29,17 +29,16 @@ pub struct Parts {
 }
 
 /// Puts a scope before the list of some statements.
-pub fn put_scope(
-    alloc: Global,
-    stmts: &[Stmt],
-    list: usize,
-    code: &mut Compiling,
-) -> Result<usize, Memory>
-    requires reads { ReadsStmts code.old.nodes list (plain_stmts stmts.now) }
-    ensures { IfOk result (λ place. Pushed code.old code.new place (λ t. AScope (as_stmts (t list)))) }
+pub fn put_scope(alloc: Global, stmts: &[Stmt], list: usize, code: &mut Compiling) -> usize
+    requires reads { IfWhole code.old (ReadsStmts code.old.nodes list (plain_stmts stmts.now)) }
+    ensures { Kept code.old code.new (Pushed code.old code.new result (λ t. AScope (as_stmts (t list)))) }
 {
-    let functions = hoisted(alloc, code, list)?;
-    let scope = block_scope(alloc, stmts, functions)?;
+    let Ok(functions) = hoisted(alloc, code, list) else {
+        return lack(code);
+    };
+    let Ok(scope) = block_scope(alloc, stmts, functions) else {
+        return lack(code);
+    };
     push(
         code,
         Node::Scope {
@@ -50,17 +49,16 @@ pub fn put_scope(
 }
 
 /// Puts a scope before the list of some clauses.
-pub fn put_case_scope(
-    alloc: Global,
-    cases: &[Case],
-    list: usize,
-    code: &mut Compiling,
-) -> Result<usize, Memory>
-    requires reads { ReadsCases code.old.nodes list (plain_cases cases.now) }
-    ensures { IfOk result (λ place. Pushed code.old code.new place (λ t. ACaseScope (as_cases (t list)))) }
+pub fn put_case_scope(alloc: Global, cases: &[Case], list: usize, code: &mut Compiling) -> usize
+    requires reads { IfWhole code.old (ReadsCases code.old.nodes list (plain_cases cases.now)) }
+    ensures { Kept code.old code.new (Pushed code.old code.new result (λ t. ACaseScope (as_cases (t list)))) }
 {
-    let functions = hoisted_of_cases(alloc, code, list)?;
-    let scope = case_scope(alloc, cases, functions)?;
+    let Ok(functions) = hoisted_of_cases(alloc, code, list) else {
+        return lack(code);
+    };
+    let Ok(scope) = case_scope(alloc, cases, functions) else {
+        return lack(code);
+    };
     push(code, Node::CaseScope { scope, cases: list })
 }
 
@@ -71,12 +69,14 @@ pub fn put_init(
     declarators: &[Declarator],
     list: usize,
     code: &mut Compiling,
-) -> Result<usize, Memory>
-    requires reads { ReadsDeclarators code.old.nodes list (plain_declarators declarators.now) }
-    ensures { IfOk result (λ place. Pushed code.old code.new place (λ t. AForInit (P.InitDeclaration kind (as_declarators (t list))))) }
+) -> usize
+    requires reads { IfWhole code.old (ReadsDeclarators code.old.nodes list (plain_declarators declarators.now)) }
+    ensures { Kept code.old code.new (Pushed code.old code.new result (λ t. AForInit (P.InitDeclaration kind (as_declarators (t list))))) }
 {
     let mut names = Items::new(alloc);
-    lexical_names(alloc, kind, declarators, &mut names)?;
+    let Ok(()) = lexical_names(alloc, kind, declarators, &mut names) else {
+        return lack(code);
+    };
     push(
         code,
         Node::InitDeclaration {
@@ -107,13 +107,17 @@ pub fn put_function(
     params: &[Param],
     stmts: &[Stmt],
     code: &mut Compiling,
-) -> Result<usize, Memory>
-    requires params { ReadsParams code.old.nodes parts.params (plain_params params.now) }
-    requires body { ReadsStmts code.old.nodes parts.body (plain_stmts stmts.now) }
-    ensures { IfOk result (λ place. Pushed code.old code.new place (code_part is_method parts.number parts.params parts.body_loc parts.body)) }
+) -> usize
+    requires params { IfWhole code.old (ReadsParams code.old.nodes parts.params (plain_params params.now)) }
+    requires body { IfWhole code.old (ReadsStmts code.old.nodes parts.body (plain_stmts stmts.now)) }
+    ensures { Kept code.old code.new (Pushed code.old code.new result (code_part is_method parts.number parts.params parts.body_loc parts.body)) }
 {
-    let functions = hoisted(alloc, code, parts.body)?;
-    let scope = code_scope(alloc, params, stmts, functions)?;
+    let Ok(functions) = hoisted(alloc, code, parts.body) else {
+        return lack(code);
+    };
+    let Ok(scope) = code_scope(alloc, params, stmts, functions) else {
+        return lack(code);
+    };
     push(
         code,
         Node::Function {
@@ -134,12 +138,14 @@ pub fn put_arrow_expression(
     parts: Parts,
     params: &[Param],
     code: &mut Compiling,
-) -> Result<usize, Memory>
-    requires params { ReadsParams code.old.nodes parts.params (plain_params params.now) }
-    requires body { parts.body < length code.old.nodes }
-    ensures { IfOk result (λ place. Pushed code.old code.new place (arrow_expression_part parts.number parts.params parts.body)) }
+) -> usize
+    requires params { IfWhole code.old (ReadsParams code.old.nodes parts.params (plain_params params.now)) }
+    requires body { IfWhole code.old (parts.body < length code.old.nodes) }
+    ensures { Kept code.old code.new (Pushed code.old code.new result (arrow_expression_part parts.number parts.params parts.body)) }
 {
-    let scope = code_scope(alloc, params, &[], Items::new(alloc))?;
+    let Ok(scope) = code_scope(alloc, params, &[], Items::new(alloc)) else {
+        return lack(code);
+    };
     push(
         code,
         Node::ArrowExpression {
@@ -159,13 +165,17 @@ pub fn put_arrow_block(
     params: &[Param],
     stmts: &[Stmt],
     code: &mut Compiling,
-) -> Result<usize, Memory>
-    requires params { ReadsParams code.old.nodes parts.params (plain_params params.now) }
-    requires body { ReadsStmts code.old.nodes parts.body (plain_stmts stmts.now) }
-    ensures { IfOk result (λ place. Pushed code.old code.new place (arrow_block_part parts.number parts.params parts.body_loc parts.body)) }
+) -> usize
+    requires params { IfWhole code.old (ReadsParams code.old.nodes parts.params (plain_params params.now)) }
+    requires body { IfWhole code.old (ReadsStmts code.old.nodes parts.body (plain_stmts stmts.now)) }
+    ensures { Kept code.old code.new (Pushed code.old code.new result (arrow_block_part parts.number parts.params parts.body_loc parts.body)) }
 {
-    let functions = hoisted(alloc, code, parts.body)?;
-    let scope = code_scope(alloc, params, stmts, functions)?;
+    let Ok(functions) = hoisted(alloc, code, parts.body) else {
+        return lack(code);
+    };
+    let Ok(scope) = code_scope(alloc, params, stmts, functions) else {
+        return lack(code);
+    };
     push(
         code,
         Node::ArrowBlock {

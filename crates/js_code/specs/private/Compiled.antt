@@ -1,5 +1,5 @@
 -- What compiling a part of a tree does.
-use Rattle.std.specs.Prelude.{◌≡◌, ℕ, Bool, ◌<◌, List, [], ◌∷◌, ◌++◌, length, map, Option}
+use Rattle.std.specs.Prelude.{◌≡◌, ℕ, Bool, ◌<◌, List, [], ◌∷◌, ◌++◌, length, map, set, false, Option}
 use Rattle.js_terms.specs.declared.place.Loc.{Loc}
 use Rattle.js_terms.specs.declared.words.Identifier.{Identifier}
 use Rattle.js_tree.specs.Plain as P
@@ -17,6 +17,26 @@ use Rattle.js_meaning.specs.Program.{Source, from, functions_of, link_sources, s
 use Rattle.js_code.specs.declared.code.FileCode.{FileCode}
 use Rattle.js_code.specs.Program.{ReadsFile}
 use Rattle.js_code.specs.private.Push.{Compiling, Grows}
+
+-- what holds where memory wasn't wanting
+abbrev pub IfWhole : Compiling → Type 0 → Type 0
+IfWhole code P = code.wanting ≡ false → P
+
+-- what a step does unless memory is wanting, which the code tells from then on
+pub record Kept (old new : Compiling) (P : Type 0) : Type 0 where
+  pub whole : new.wanting ≡ false → old.wanting ≡ false
+  pub kept : new.wanting ≡ false → P
+
+-- a function's number is taken
+pub record Reserved (old new : Compiling) (number : ℕ) : Type 0 where
+  pub nodes : new.nodes ≡ old.nodes
+  pub numbered : number ≡ length old.functions
+  pub functions : new.functions ≡ old.functions ++ 0 ∷ []
+
+-- the place of its code is told
+pub record Noted (old new : Compiling) (number place : ℕ) : Type 0 where
+  pub nodes : new.nodes ≡ old.nodes
+  pub functions : new.functions ≡ set old.functions number place
 
 -- a node stands at the end, which is read as a part by its own parts
 pub record Pushed (old new : Compiling) (place : ℕ) (part : Reader → Part) : Type 0 where
