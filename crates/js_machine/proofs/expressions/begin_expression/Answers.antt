@@ -110,3 +110,54 @@ returns-in_default-clause-means c = λ t named. rw c.primitive-in_default.ensure
 
 pub returns-in-Unary-clause-less : goal.returns-in-Unary-clause-less
 returns-in-Unary-clause-less c = IfOk-weaker c.begin_unary.result _ _ (λ next less w. rw c.in-Unary.is (omega (arith, less w))) c.begin_unary.ensures.less
+
+pub returns-in-IdentifierReference-clause-less : goal.returns-in-IdentifierReference-clause-less
+returns-in-IdentifierReference-clause-less c = λ w. rw c.in-IdentifierReference.is (omega arith)
+
+pub returns-in-This-clause-less : goal.returns-in-This-clause-less
+returns-in-This-clause-less c = λ w. rw c.in-This.is (omega arith)
+
+pub returns-in-NullLiteral-clause-less : goal.returns-in-NullLiteral-clause-less
+returns-in-NullLiteral-clause-less c = λ w. rw (c.in-NullLiteral.is, c.primitive.ensures) (omega arith)
+
+pub returns-in-BooleanLiteral-clause-less : goal.returns-in-BooleanLiteral-clause-less
+returns-in-BooleanLiteral-clause-less c = λ w. rw (c.in-BooleanLiteral.is, c.primitive-in-BooleanLiteral.ensures) (omega arith)
+
+pub returns-in-NumericLiteral-clause-less : goal.returns-in-NumericLiteral-clause-less
+returns-in-NumericLiteral-clause-less c = λ w. rw c.in-NumericLiteral.is (omega arith)
+
+pub returns-in_ok-copy-in-StringLiteral-clause-less : goal.returns-in_ok-copy-in-StringLiteral-clause-less
+returns-in_ok-copy-in-StringLiteral-clause-less c = λ w. rw (c.in-StringLiteral.is, c.primitive-in-StringLiteral.ensures) (omega arith)
+
+pub returns-in-ArrayLiteral-clause-less : goal.returns-in-ArrayLiteral-clause-less
+returns-in-ArrayLiteral-clause-less c = λ w. rw c.in-ArrayLiteral.is (omega arith)
+
+pub returns-in-ObjectLiteral-clause-less : goal.returns-in-ObjectLiteral-clause-less
+returns-in-ObjectLiteral-clause-less c = λ w. rw c.in-ObjectLiteral.is (omega arith)
+
+pub returns-in-FunctionExpression-clause-less : goal.returns-in-FunctionExpression-clause-less
+returns-in-FunctionExpression-clause-less c = λ w. rw c.in-FunctionExpression.is (omega arith)
+
+pub returns-in-ArrowFunction-clause-less : goal.returns-in-ArrowFunction-clause-less
+returns-in-ArrowFunction-clause-less c = λ w. rw c.in-ArrowFunction.is (omega arith)
+
+pub returns-in-RegularExpressionLiteral-clause-less : goal.returns-in-RegularExpressionLiteral-clause-less
+returns-in-RegularExpressionLiteral-clause-less c = λ w. rw c.in-RegularExpressionLiteral.is (omega arith)
+
+pub returns-in_ok-copy-in-TemplateLiteral-clause-less : goal.returns-in_ok-copy-in-TemplateLiteral-clause-less
+returns-in_ok-copy-in-TemplateLiteral-clause-less c = λ w. rw c.in-TemplateLiteral.is (omega arith)
+
+pub returns-in-Parenthesized-clause-less : goal.returns-in-Parenthesized-clause-less
+returns-in-Parenthesized-clause-less c = λ w. rw c.in-Parenthesized.is (omega arith)
+
+pub returns-in-Call-clause-less : goal.returns-in-Call-clause-less
+returns-in-Call-clause-less c = λ w. rw c.in-Call.is (omega arith)
+
+pub returns-in-PostfixUpdate-clause-less : goal.returns-in-PostfixUpdate-clause-less
+returns-in-PostfixUpdate-clause-less c = λ w. rw c.in-PostfixUpdate.is (omega arith)
+
+pub returns-in-PrefixUpdate-clause-less : goal.returns-in-PrefixUpdate-clause-less
+returns-in-PrefixUpdate-clause-less c = λ w. rw c.in-PrefixUpdate.is (omega arith)
+
+pub returns-in-Assignment-clause-less : goal.returns-in-Assignment-clause-less
+returns-in-Assignment-clause-less c = λ w. rw c.in-Assignment.is (omega arith)

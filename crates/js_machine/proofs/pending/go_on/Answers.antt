@@ -188,3 +188,75 @@ returns-in-Taken-clause-less c = λ w. rw c.in-Taken.is (omega (arith, c.take_pa
 
 pub returns-in-NextParam-clause-less : goal.returns-in-NextParam-clause-less
 returns-in-NextParam-clause-less c = λ w. rw c.in-NextParam.is (omega (arith, c.next_param.ensures.less w))
+
+pub returns-in-NamedMember-clause-less : goal.returns-in-NamedMember-clause-less
+returns-in-NamedMember-clause-less c = λ w. rw c.in-NamedMember.is (omega arith)
+
+pub returns-in-MemberKey-clause-less : goal.returns-in-MemberKey-clause-less
+returns-in-MemberKey-clause-less c = λ w. rw c.in-MemberKey.is (omega arith)
+
+pub returns-in-Constructor-clause-less : goal.returns-in-Constructor-clause-less
+returns-in-Constructor-clause-less c = λ w. rw c.in-Constructor.is (omega arith)
+
+pub returns-in-Callee-clause-less : goal.returns-in-Callee-clause-less
+returns-in-Callee-clause-less c = λ w. rw c.in-Callee.is (omega arith)
+
+pub returns-in_ok-push-in-Item-clause-less : goal.returns-in_ok-push-in-Item-clause-less
+returns-in_ok-push-in-Item-clause-less c = λ w. rw c.in-Item.is (omega arith)
+
+pub returns-in-Operand-clause-less : goal.returns-in-Operand-clause-less
+returns-in-Operand-clause-less c = λ w. rw c.in-Operand.is (omega arith)
+
+pub returns-in-Right-clause-less : goal.returns-in-Right-clause-less
+returns-in-Right-clause-less c = λ w. rw c.in-Right.is (omega arith)
+
+pub returns-in-Comma-clause-less : goal.returns-in-Comma-clause-less
+returns-in-Comma-clause-less c = λ w. rw c.in-Comma.is (omega arith)
+
+pub returns-in-ReferNamed-clause-less : goal.returns-in-ReferNamed-clause-less
+returns-in-ReferNamed-clause-less c = λ w. rw c.in-ReferNamed.is (omega arith)
+
+pub returns-in-ReferKey-clause-less : goal.returns-in-ReferKey-clause-less
+returns-in-ReferKey-clause-less c = λ w. rw c.in-ReferKey.is (omega arith)
+
+pub returns-in-Instead-clause-less : goal.returns-in-Instead-clause-less
+returns-in-Instead-clause-less c = λ w. rw c.in-Instead.is (omega arith)
+
+pub returns-in-Property-clause-less : goal.returns-in-Property-clause-less
+returns-in-Property-clause-less c = λ w. rw c.in-Property.is (omega arith)
+
+pub returns-in-As-clause-less : goal.returns-in-As-clause-less
+returns-in-As-clause-less c = λ w. rw c.in-As.is (omega arith)
+
+pub returns-in-Declarator-clause-less : goal.returns-in-Declarator-clause-less
+returns-in-Declarator-clause-less c = λ w. rw c.in-Declarator.is (omega arith)
+
+pub returns-in-Discard-clause-less : goal.returns-in-Discard-clause-less
+returns-in-Discard-clause-less c = λ w. rw (c.in-Discard.is, c.undefined.ensures) (omega arith)
+
+pub returns-in-Statement-clause-less : goal.returns-in-Statement-clause-less
+returns-in-Statement-clause-less c = λ w. rw c.in-Statement.is (omega arith)
+
+pub returns-in-Started-clause-less : goal.returns-in-Started-clause-less
+returns-in-Started-clause-less c = λ w. rw c.in-Started.is (omega arith)
+
+pub returns-in-Updated-clause-less : goal.returns-in-Updated-clause-less
+returns-in-Updated-clause-less c = λ w. rw c.in-Updated.is (omega arith)
+
+pub returns-in-Switch-clause-less : goal.returns-in-Switch-clause-less
+returns-in-Switch-clause-less c = λ w. rw c.in-Switch.is (omega arith)
+
+pub returns-in-Fallen-clause-less : goal.returns-in-Fallen-clause-less
+returns-in-Fallen-clause-less c = λ w. rw c.in-Fallen.is (omega arith)
+
+pub returns-in-Return-clause-less : goal.returns-in-Return-clause-less
+returns-in-Return-clause-less c = λ w. rw c.in-Return.is (omega arith)
+
+pub returns-in-Throw-clause-less : goal.returns-in-Throw-clause-less
+returns-in-Throw-clause-less c = λ w. rw c.in-Throw.is (omega arith)
+
+pub returns-in-OwnName-clause-less : goal.returns-in-OwnName-clause-less
+returns-in-OwnName-clause-less c = λ w. rw c.in-OwnName.is (omega arith)
+
+pub returns-in-Bound-clause-less : goal.returns-in-Bound-clause-less
+returns-in-Bound-clause-less c = λ w. rw c.in-Bound.is (omega arith)

@@ -104,3 +104,21 @@ returns-in_default-clause-means c = λ t named at. rw c.undefined.ensures (ap (p
 
 pub returns-in-TryCatch-clause-less : goal.returns-in-TryCatch-clause-less
 returns-in-TryCatch-clause-less c = IfOk-weaker c.begin_try.result _ _ (λ next weight w. rw c.in-TryCatch.is (omega (arith, weight w))) c.begin_try.ensures.weight
+
+pub returns-in-Block-clause-less : goal.returns-in-Block-clause-less
+returns-in-Block-clause-less c = λ w. rw c.in-Block.is (omega arith)
+
+pub returns-in-VariableDeclaration-clause-less : goal.returns-in-VariableDeclaration-clause-less
+returns-in-VariableDeclaration-clause-less c = λ w. rw c.in-VariableDeclaration.is (omega arith)
+
+pub returns-in-DoWhile-clause-less : goal.returns-in-DoWhile-clause-less
+returns-in-DoWhile-clause-less c = λ w. rw c.in-DoWhile.is (omega arith)
+
+pub returns-in-For-clause-less : goal.returns-in-For-clause-less
+returns-in-For-clause-less c = λ w. rw c.in-For.is (omega arith)
+
+pub returns-in_ok-copied-in-Continue-clause-less : goal.returns-in_ok-copied-in-Continue-clause-less
+returns-in_ok-copied-in-Continue-clause-less c = λ w. rw c.in-Continue.is (omega arith)
+
+pub returns-in_ok-copied-in-Break-clause-less : goal.returns-in_ok-copied-in-Break-clause-less
+returns-in_ok-copied-in-Break-clause-less c = λ w. rw c.in-Break.is (omega arith)
