@@ -1,4 +1,4 @@
-ghost use Rattle.std.specs.Prelude.{◌≡◌, ◌<◌, ◌^◌, ◌-◌, ◌++◌, ◌∷◌, [], true, false, length, slice_get, IfOk};
+ghost use Rattle.std.specs.Prelude.{◌≡◌, ◌<◌, ◌^◌, ◌-◌, ◌++◌, ◌∷◌, [], true, false, length, slice_get, IfOk, MatchResult};
 ghost use Rattle.js_tree.specs.Plain.{BindingIdentifier};
 ghost use Rattle.js_tree.specs.Tree.{plain_pattern};
 ghost use Rattle.js_code.specs.declared.node.Node.TheVariants.{Missing};
@@ -64,9 +64,9 @@ impl Compiling {
         at(self.nodes.as_slice(), place, &self.end)
     }
 
-    /// The place that was given for a part, unless memory was wanting.
+    /// The place that was given for a part: an error exactly where memory was wanting.
     pub fn finish(&self, place: usize) -> Result<usize, Memory>
-        ensures { IfOk result (λ given. (given ≡ place) × (self.now.wanting ≡ false)) }
+        ensures { MatchResult result (λ given. (given ≡ place) × (self.now.wanting ≡ false)) (λ failed. self.now.wanting ≡ true) }
     {
         if self.wanting {
             return Err(AllocError);
@@ -97,6 +97,7 @@ fn at<'a>(nodes: &'a [Node], place: usize, missing: &'a Node) -> &'a Node
 pub fn begin(alloc: Global) -> Compiling
     ensures nodes { result.nodes ≡ [] }
     ensures functions { result.functions ≡ [] }
+    ensures whole { result.wanting ≡ false }
 {
     Compiling {
         nodes: Items::new(alloc),
