@@ -62,8 +62,8 @@ fn call_object(heap: &Heap, callee: Object, this: Value, arguments: Items<Value>
     }
 }
 
-// The error that what is called is no function, in place of a call.
-fn not_a_function(this: Value, arguments: Items<Value>) -> Control
+/// The error that what is called is no function, in place of a call.
+pub fn not_a_function(this: Value, arguments: Items<Value>) -> Control
     ensures { result ≡ Control.Do (Action.Throw Complaint.NotAFunction) }
 {
     drop(this);

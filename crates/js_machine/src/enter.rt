@@ -18,6 +18,7 @@ ghost use Rattle.js_machine.specs.private.Config.{View, view_of, entry_of, frame
 ghost use Rattle.js_machine.specs.private.State.{store_in, Becomes};
 
 use crate::built_ins::is_handing;
+use crate::call_actions::not_a_function;
 use crate::data::{Action, Control, Entry, Frame, Step};
 use crate::file_actions::require;
 use crate::function_actions::make_error;
@@ -29,7 +30,7 @@ use js_code::{Code, Node};
 use js_heap::{Env, ObjectKind};
 use js_host::{Native, call_native, make_instance};
 use js_meaning::Completion;
-use js_value::{Complaint, Object, Primitive, Value};
+use js_value::{Object, Primitive, Value};
 use std::alloc::Global;
 
 /// Takes a step that is asked for.
@@ -259,18 +260,9 @@ fn hand_on(
         Value::Object(callee) => hand_object(alloc, code, state, callee, this, arguments),
         Value::Primitive(value) => {
             drop(value);
-            Ok(not_a_function(this, arguments))
+            Ok(Step::Go(not_a_function(this, arguments)))
         }
     }
-}
-
-// The error that what is called is no function, in place of a call.
-fn not_a_function(this: Value, arguments: Items<Value>) -> Step
-    ensures { result ≡ Step.Go (Control.Do (Action.Throw Complaint.NotAFunction)) }
-{
-    drop(this);
-    drop(arguments);
-    Step::Go(Control::Do(Action::Throw(Complaint::NotAFunction)))
 }
 
 // A call of an object takes the place of another one.
@@ -296,10 +288,10 @@ fn hand_object(
             let function = *function;
             hand_built_in(alloc, code, state, callee, function, this, arguments)
         }
-        ObjectKind::Plain => Ok(not_a_function(this, arguments)),
-        ObjectKind::Array => Ok(not_a_function(this, arguments)),
-        ObjectKind::Error => Ok(not_a_function(this, arguments)),
-        ObjectKind::RegExp => Ok(not_a_function(this, arguments)),
+        ObjectKind::Plain => Ok(Step::Go(not_a_function(this, arguments))),
+        ObjectKind::Array => Ok(Step::Go(not_a_function(this, arguments))),
+        ObjectKind::Error => Ok(Step::Go(not_a_function(this, arguments))),
+        ObjectKind::RegExp => Ok(Step::Go(not_a_function(this, arguments))),
     }
 }
 

@@ -26,6 +26,7 @@ use crate::data::{Action, Control, Frame, Step, Task};
 use crate::function_actions::define_named;
 use crate::scopes::{enter_body, make_scope};
 use crate::state::{CachedFile, RequiringFile, State};
+use crate::steps::undefined;
 use items::{Items, Memory, Text};
 use js_code::{Code, FileCode};
 use js_heap::{Binding, Env, Flags, Heap, ObjectKind};
@@ -52,13 +53,6 @@ pub fn start_file(
         Some(source) => start_source(alloc, state, source, file),
         None => Ok(undefined()),
     }
-}
-
-// The value undefined for what waits.
-fn undefined() -> Control
-    ensures { result ≡ Control.Give (Completion.Normal (Value.Primitive Primitive.Undefined)) }
-{
-    Control::Give(Completion::Normal(Value::Primitive(Primitive::Undefined)))
 }
 
 // The same of a file that is there.

@@ -9,8 +9,8 @@ ghost use Rattle.js_machine.specs.private.Config.{View, control_comp, goes_throu
 ghost use Rattle.js_machine.specs.private.Weight.{Weights, control_weight};
 
 use crate::data::{Action, Control, Task};
-use crate::member_actions::halted;
 use crate::parts::Loop;
+use crate::steps::halted;
 use items::{Boxed, Memory};
 use js_heap::Heap;
 use js_host::{Iteration, iterate_items, iterate_keys, take_next};

@@ -1,6 +1,6 @@
 // Members are read, written and deleted.
 
-ghost use Rattle.std.specs.Prelude.{◌≡◌, ◌<◌, IfOk, IsErr, OnOk, true};
+ghost use Rattle.std.specs.Prelude.{◌≡◌, ◌<◌, IfOk, OnOk, true};
 ghost use Rattle.js_value.specs.Members as members;
 ghost use Rattle.js_value.specs.Objects as objects;
 ghost use Rattle.js_value.specs.Realm.{text};
@@ -9,30 +9,17 @@ ghost use Rattle.js_meaning.specs.Meaning as M;
 ghost use Rattle.js_machine.specs.private.Config.{View, control_comp, key_in};
 ghost use Rattle.js_machine.specs.private.Weight.{Weights, control_weight};
 
-use crate::data::{Action, Control};
+use crate::data::Control;
 use crate::names::{Words, units_at};
 use crate::parts::MemberKey;
+use crate::steps::halted;
 use items::Memory;
 use js_code::Code;
 use js_heap::{Flags, Heap};
 use js_host::{delete_member, get_member, get_named, put_member};
 use js_meaning::Completion;
-use js_value::{Halt, Object, Primitive, Str, Value};
-use std::alloc::{AllocError, Global};
-
-/// What is done in place of a value.
-#[inline(never)]
-pub fn halted(halt: Halt) -> Result<Control, Memory>
-    ensures means { IfOk result (λ control. (t : View) → control_comp t control ≡ M.halted halt) }
-    ensures less { IfOk result (λ control. (w : Weights) → control_weight w control < 2) }
-    ensures memory { halt ≡ Halt.Memory → IsErr result }
-{
-    match halt {
-        Halt::Throw(complaint) => Ok(Control::Do(Action::Throw(complaint))),
-        Halt::Refuse(kind) => Ok(Control::Refuse(kind)),
-        Halt::Memory => Err(AllocError),
-    }
-}
+use js_value::{Object, Primitive, Str, Value};
+use std::alloc::Global;
 
 /// The value of a member.
 #[inline(never)]

@@ -10,7 +10,7 @@ ghost use Rattle.js_machine.specs.private.Config.{View, control_comp, operated_o
 ghost use Rattle.js_machine.specs.private.Weight.{Weights, control_weight};
 
 use crate::data::Control;
-use crate::member_actions::halted;
+use crate::steps::halted;
 use items::Memory;
 use js_heap::Heap;
 use js_host::{is_in, is_instance, type_in};

@@ -18,21 +18,14 @@ use crate::data::{Control, Task};
 use crate::names::{Words, name_at};
 use crate::parts::Scoped;
 use crate::scopes::{bindings, enter_scope, make_name, make_scope, put_binding};
+use crate::steps::undefined;
 use items::{Items, Memory};
 use js_code::{Code, Node};
 use js_heap::{Binding, Env, Heap};
-use js_meaning::Completion;
 use js_names::SharedName;
 use js_tree::VariableKind;
-use js_value::{Primitive, Value};
+use js_value::Value;
 use std::alloc::Global;
-
-// The value undefined for what waits.
-fn undefined() -> Control
-    ensures { result ≡ Control.Give (Completion.Normal (Value.Primitive Primitive.Undefined)) }
-{
-    Control::Give(Completion::Normal(Value::Primitive(Primitive::Undefined)))
-}
 
 /// A block is entered.
 #[inline(never)]

@@ -1,5 +1,5 @@
 use Rattle.std.proofs.Common.{sym, ap, ◌∙◌}
-use Rattle.std.proofs.Common.{is_some, true, false}
+use Rattle.std.proofs.Common.{is_some}
 use Rattle.js_value.specs.Running.{cached}
 use Rattle.js_meaning.specs.Files as F
 use Rattle.js_meaning.specs.Meaning as M
